@@ -1,0 +1,60 @@
+use crate::line::natural;
+use crate::line::text;
+use libc::STDOUT_FILENO;
+
+// How far a family of cases has come, and the digest of its block.
+pub struct Report {
+    pub cases: u64,
+    pub digest: u64,
+}
+
+// The digest with one byte more.
+fn digested(digest: u64, byte: u8) -> u64 {
+    (digest % 4_294_967_291 * 16_777_619 + byte as u64 + 1) % 4_294_967_291
+}
+
+fn print(line: &[u8], len: usize) {
+    if len <= line.len() {
+        io::write_all(STDOUT_FILENO, &line[..len]);
+    }
+}
+
+fn print_digest(family: &[u8], cases: u64, digest: u64) {
+    let mut line = [0u8; 80];
+    let mut at = text(&mut line, 0, b"digest ");
+    at = text(&mut line, at, family);
+    at = natural(&mut line, at, cases);
+    at = natural(&mut line, at, digest);
+    at = text(&mut line, at, b"\n");
+    print(&line, at);
+}
+
+impl Report {
+    pub fn new() -> Report {
+        Report {
+            cases: 0,
+            digest: 0,
+        }
+    }
+
+    // Takes in a case's line, its LF included: prints it where it is a hundredth one, and the block's digest where it ends one.
+    pub fn case(self, family: &[u8], line: &[u8], len: usize) -> Report {
+        let mut digest = self.digest;
+        let mut i = 0;
+        while i < line.len() {
+            if i < len {
+                digest = digested(digest, line[i]);
+            }
+            i += 1;
+        }
+        if self.cases % 100 == 0 {
+            print(line, len);
+        }
+        let cases = self.cases % 1_000_000_000 + 1;
+        if cases % 1000 == 0 {
+            print_digest(family, cases, digest);
+            return Report { cases, digest: 0 };
+        }
+        Report { cases, digest }
+    }
+}

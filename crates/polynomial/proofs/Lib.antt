@@ -1,0 +1,5 @@
+pub mod Fractions
+pub mod Sizes
+pub mod Rise
+pub mod Loss
+pub mod Loops

@@ -1,0 +1,4 @@
+pub mod Division
+pub mod Answered
+pub mod Unique
+pub mod Values

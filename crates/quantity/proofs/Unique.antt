@@ -1,0 +1,66 @@
+-- A promise on the ratio allows one outcome only, and no two refusals have one number.
+use mathlib.Core.Path.{_≡_, refl, sym, _∙_, ap, subst}
+use mathlib.Core.List.{List, [], _∷_}
+use Prim.Native.Nat.{ℕ, _-_}
+use native.Mathlib.Omega.{arith}
+use lib.ListN.{getD}
+use Rattle.quantity.specs.declared.refusal.Refusal.{Refusal}
+use Rattle.quantity.specs.declared.refusal.Refusal.the-variants.{ResistanceOutside, RatioAbove, NameUnknown, CellNotMeasured, PurityCellNotMeasured, Impure, BeyondLimit, BelowRange, AboveRange, IllFormed, BufferShort}
+use Rattle.quantity.specs.declared.resistance.RatioAnswer.{RatioAnswer}
+use Rattle.quantity.specs.declared.resistance.RatioAnswer.the-variants.{Ratio, Refused}
+use Rattle.quantity.specs.Refusals.{numberOf}
+use Rattle.quantity.specs.RatioAnswer.{Outcome, stated, ratioAnswer}
+
+-- the refusals by their numbers, from 1
+table : List Refusal
+table =
+    ResistanceOutside
+    ∷ RatioAbove
+    ∷ NameUnknown
+    ∷ CellNotMeasured
+    ∷ PurityCellNotMeasured
+    ∷ Impure
+    ∷ BeyondLimit
+    ∷ BelowRange
+    ∷ AboveRange
+    ∷ IllFormed
+    ∷ BufferShort
+    ∷ []
+
+refusal : ℕ → Refusal
+refusal number = getD table (number - 1) BufferShort
+
+back : (why : Refusal) → refusal (numberOf why) ≡ why
+unfolding refusal table
+back ResistanceOutside = refl
+back RatioAbove = refl
+back NameUnknown = refl
+back CellNotMeasured = refl
+back PurityCellNotMeasured = refl
+back Impure = refl
+back BeyondLimit = refl
+back BelowRange = refl
+back AboveRange = refl
+back IllFormed = refl
+back BufferShort = refl
+
+pub number-unique : (x y : Refusal) → numberOf x ≡ numberOf y → x ≡ y
+number-unique x y e = sym (back x) ∙ ap refusal e ∙ back y
+
+-- none is 0, the number of an answer
+not-zero : (why : Refusal) → 0 ≡ numberOf why → ⊥
+unfolding refusal table
+not-zero why e =
+    let z : 1 ≡ numberOf why = subst (λ (n : ℕ). numberOf (refusal n) ≡ numberOf why) (sym e) (ap numberOf (back why)) in
+    omega arith
+
+stated-unique : (x y : RatioAnswer) → stated x ≡ stated y → x ≡ y
+stated-unique (Ratio v) (Ratio w) e = ap Ratio (ap (λ (n : ℕ). record { 0 = n }) (ap (λ (o : Outcome). o .ratio) e))
+stated-unique (Ratio v) (Refused why) e =
+    absurd (not-zero why (ap (λ (o : Outcome). o .code) e))
+stated-unique (Refused why) (Ratio w) e =
+    absurd (not-zero why (ap (λ (o : Outcome). o .code) (sym e)))
+stated-unique (Refused x) (Refused y) e = ap Refused (number-unique x y (ap (λ (o : Outcome). o .code) e))
+
+pub only-one : (r r0 : ℕ) (x y : RatioAnswer) → stated x ≡ ratioAnswer r r0 → stated y ≡ ratioAnswer r r0 → x ≡ y
+only-one r r0 x y p q = stated-unique x y (p ∙ sym q)

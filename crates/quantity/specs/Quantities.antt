@@ -1,0 +1,29 @@
+-- The scope document's "Quantities".
+use mathlib.Core.Bool.{Bool, _&&_}
+use Prim.Native.Nat.{ℕ, _*_, _/_, _^_}
+use lib.Dec.{leb}
+use lib.IntN.{ℤ, pos, _+ℤ_}
+
+-- The one passage from a Celsius count to a kelvin count: 0 °C is 273.15 K.
+abbrev pub kelvinOf : ℤ → ℤ
+kelvinOf celsius = celsius +ℤ pos 2_731_500
+
+-- No resistance is above 10^12 nΩ.
+abbrev pub largestResistance : ℕ
+largestResistance = 10 ^ 12
+
+-- A reading R is 1 nΩ or more.
+abbrev pub isReading : ℕ → Bool
+isReading r = leb 1 r && leb r largestResistance
+
+-- A divisor R0 is 10^8 nΩ or more.
+abbrev pub isDivisor : ℕ → Bool
+isDivisor r0 = leb (10 ^ 8) r0 && leb r0 largestResistance
+
+-- W = R/R0 in units of 10^-9, rounded down.
+abbrev pub ratioOf : ℕ → ℕ → ℕ
+ratioOf r r0 = r * 10 ^ 9 / r0
+
+-- 4.4
+abbrev pub largestRatio : ℕ
+largestRatio = 4_400_000_000

@@ -1,0 +1,28 @@
+-- "Numbers given when there is no answer": the table's number for each case, with the table's words.
+use Prim.Native.Nat.{ℕ}
+use Rattle.quantity.specs.declared.refusal.Refusal.{Refusal}
+use Rattle.quantity.specs.declared.refusal.Refusal.the-variants.{ResistanceOutside, RatioAbove, NameUnknown, CellNotMeasured, PurityCellNotMeasured, Impure, BeyondLimit, BelowRange, AboveRange, IllFormed, BufferShort}
+
+abbrev pub numberOf : Refusal → ℕ
+-- R or R0 outside its limits
+numberOf ResistanceOutside = 1
+-- a ratio above 4.4
+numberOf RatioAbove = 2
+-- law, subrange or class unknown
+numberOf NameUnknown = 3
+-- a cell of the subrange not measured
+numberOf CellNotMeasured = 4
+-- neither Ga nor Hg measured
+numberOf PurityCellNotMeasured = 5
+-- purity not met
+numberOf Impure = 6
+-- deviation or coefficient beyond its limit, an unused place not 0, or W(Al) beyond its deviation limit
+numberOf BeyondLimit = 7
+-- below the range
+numberOf BelowRange = 8
+-- above the range
+numberOf AboveRange = 9
+-- ill-formed line
+numberOf IllFormed = 10
+-- lent buffer shorter than the answer line
+numberOf BufferShort = 11

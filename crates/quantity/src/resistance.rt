@@ -1,0 +1,58 @@
+ghost use mathlib.Core.Path.{_≡_};
+ghost use mathlib.Core.Bool.{_&&_};
+ghost use Prim.Native.Nat.{_≤_, _^_};
+ghost use lib.Dec.{leb};
+ghost use Rattle.quantity.specs.Quantities.{largestResistance, ratioOf};
+ghost use Rattle.quantity.specs.RatioAnswer.{ratioAnswer, stated};
+use crate::refusal::Refusal;
+
+// Whole nanoohms.
+pub struct Nanoohm(pub u64);
+
+// Whole units of 10^-9.
+pub struct Ratio(pub u64);
+
+pub enum RatioAnswer {
+    Ratio(Ratio),
+    Refused(Refusal),
+}
+
+const LARGEST: u64 = 1_000_000_000_000;
+
+const LEAST_DIVISOR: u64 = 100_000_000;
+
+const LARGEST_RATIO: u64 = 4_400_000_000;
+
+fn within(x: u64, least: u64, most: u64) -> bool
+    ensures { λ b. ⌜ b ≡ (leb least x && leb x most) ⌝ }
+{
+    least <= x && x <= most
+}
+
+// R/R0 in units of 10^-9, rounded down. R times 10^9 would pass 64 bits, so six decimals come first and three more from what is left.
+fn nine_decimals(r: u64, r0: u64) -> u64
+    requires { ⌜ (r ≤ largestResistance) × (10 ^ 8 ≤ r0) × (r0 ≤ largestResistance) ⌝ }
+    ensures { λ w. ⌜ w ≡ ratioOf r r0 ⌝ }
+{
+    let millionfold = r * 1_000_000;
+    millionfold / r0 * 1000 + millionfold % r0 * 1000 / r0
+}
+
+// The ratio of two resistances.
+pub fn ratio_of(r: Nanoohm, r0: Nanoohm) -> RatioAnswer
+    ensures { λ m. ⌜ stated m ≡ ratioAnswer (r .0) (r0 .0) ⌝ }
+{
+    let x = r.0;
+    let y = r0.0;
+    if !within(x, 1, LARGEST) {
+        return RatioAnswer::Refused(Refusal::ResistanceOutside);
+    }
+    if !within(y, LEAST_DIVISOR, LARGEST) {
+        return RatioAnswer::Refused(Refusal::ResistanceOutside);
+    }
+    let w = nine_decimals(x, y);
+    if LARGEST_RATIO < w {
+        return RatioAnswer::Refused(Refusal::RatioAbove);
+    }
+    RatioAnswer::Ratio(Ratio(w))
+}

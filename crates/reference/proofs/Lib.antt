@@ -1,0 +1,5 @@
+pub mod Steps
+pub mod Rising
+pub mod Close
+pub mod Values
+pub mod Unique

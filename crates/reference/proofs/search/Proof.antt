@@ -1,0 +1,148 @@
+use mathlib.Core.Path.{_≡_, refl}
+use Prim.Native.Nat.{ℕ, zero, suc, _+_, _-_, _*_, _/_, _^_, _<_, _≤_}
+use native.Mathlib.Nat.{pow-succ'}
+use native.Mathlib.Decide.{decLt}
+use native.Mathlib.Omega.{arith}
+use lib.IntN.{ℤ, pos}
+use lib.Signed.{leZ, _≤ℤ_, _<ℤ_}
+use mir.Syntax.{w64}
+use mir.Val.{toZ, ofZ}
+use mir.Facts.{toZ-ofZ}
+use Rattle.whole.specs.Largest.{Largest}
+use Rattle.whole.proofs.Parts.{ints}
+use Rattle.whole.proofs.Machine.{back, le-yes, le-no}
+use Rattle.reference.specs.Reference.{working, last, pastLast}
+use Rattle.reference.proofs.Rising.{under-later}
+use Rattle.reference.proofs.search.Statement.{statement}
+use Rattle.reference.proofs.search.Tie as tie
+
+-- the value lies between the working values at two steps, no further apart than what k halvings leave one step of
+record Between (value : ℤ) (low high k : ℕ) : Type 0 where
+  order : low < high
+  within : high ≤ 9_617_801
+  not-above : working (pos low) ≤ℤ value
+  above : value <ℤ working (pos high)
+  near : high ≤ low + 2 ^ k
+
+abbrev Inv-loop : tie.InvT-loop
+Inv-loop value allowed low₀ high₀ left₀ low high left = Between (toZ w64 value) low high left
+
+abbrev μ-loop : tie.MeasureT-loop
+μ-loop value allowed low₀ high₀ left₀ low high left = left
+
+halving : (k : ℕ) → 0 < k → 2 ^ k ≡ 2 * 2 ^ (k - 1)
+halving zero h = absurd (omega arith)
+halving (suc k) h =
+    let e : suc k - 1 ≡ k = omega arith in
+    rw (e, pow-succ' 2 k)
+
+abbrev middle : ℕ → ℕ → ℕ
+middle low high = (low + high) / 2
+
+-- one halving, by the test at the middle
+module _ {value : ℤ} {low high k : ℕ} (b : Between value low high k) (h : 0 < k) where
+  upper : working (pos (middle low high)) ≤ℤ value → Between value (middle low high) high (k - 1)
+  upper t =
+      let e = halving k h in
+      record { order = omega (arith, b .order); within = b .within; not-above = t; above = b .above; near = omega (arith, b .near, b .order) }
+
+  lower : value <ℤ working (pos (middle low high)) → Between value low (middle low high) (k - 1)
+  lower t =
+      let e = halving k h in
+      record {
+        order = by (decLt low (middle low high));
+        within = omega (arith, b .within, b .order);
+        not-above = b .not-above;
+        above = t;
+        near = omega (arith, b .near);
+      }
+    where
+      by : Dec (low < middle low high) → low < middle low high
+      by (yes p) = p
+      by (no p) =
+          let same : middle low high ≡ low = omega (arith, b .order) in
+          let t′ : value <ℤ working (pos low) = rw same at t in
+          absurd (omega (ints, b .not-above))
+
+-- neighbouring steps: the lower one is the largest
+found : (value : ℤ) (low high : ℕ) → Between value low high 0 → Largest working (pos 0) last value (pos low)
+found value low high b =
+    let e : high ≡ suc low = omega arith in
+    record {
+      from-first = omega ints;
+      to-last = omega (ints, b .within);
+      not-above = b .not-above;
+      above = λ later p q. under-later value (pos high) later (omega ints) (b .above) (omega ints) q;
+    }
+
+loop-holds : tie.Need-loop-holds Inv-loop μ-loop
+loop-holds c =
+    let e = toZ-ofZ (c .fits .value) in
+    record {
+      order = omega arith;
+      within = omega arith;
+      not-above = rw e (c .pre .0 .0);
+      above = rw e (c .pre .0 .1);
+      near = omega (arith, c .pre .1 .0);
+    }
+
+sub-left : tie.Need-sub-left Inv-loop μ-loop
+sub-left c = omega arith
+
+add-middle : tie.Need-add-middle Inv-loop μ-loop
+add-middle c = omega arith
+
+signed-requires : tie.Need-signed-requires Inv-loop μ-loop
+signed-requires c κs = omega arith
+
+working-at-requires : tie.Need-working-at-requires Inv-loop μ-loop
+working-at-requires c κs =
+    let b = c .before .before .loop .inv in
+    rw (back _ (c .signed .ok), c .signed .ensures) (omega ints, omega (ints, b .within, b .order))
+
+at-most-requires : tie.Need-at-most-requires Inv-loop μ-loop
+at-most-requires c κs = tt
+
+-- what the test compared
+tested : (c : tie.After-at-most Inv-loop μ-loop) → c .at-most .result ≡ leZ (working (pos (middle (c .before .before .before .before .loop .low) (c .before .before .before .before .loop .high)))) (toZ w64 (ofZ w64 (c .before .before .before .before .before .args .value)))
+tested c =
+    let w = c .before in
+    rw (back _ (w .working-at .ok), w .working-at .ensures, back _ (w .before .signed .ok), w .before .signed .ensures) at (c .at-most .ensures)
+
+loop-less : tie.Need-loop-less Inv-loop μ-loop
+loop-less c = omega arith
+
+loop-again : tie.Need-loop-again Inv-loop μ-loop
+loop-again c =
+    upper (c .before .before .before .before .before .loop .inv) (omega arith) (le-yes (tested (c .before)) (c .if1 .taken))
+
+loop-less-2 : tie.Need-loop-less-2 Inv-loop μ-loop
+loop-less-2 c = omega arith
+
+loop-again-2 : tie.Need-loop-again-2 Inv-loop μ-loop
+loop-again-2 c =
+    lower (c .before .before .before .before .before .loop .inv) (omega arith) (le-no (tested (c .before)) (c .if1 .left))
+
+returns : tie.Need-returns Inv-loop μ-loop
+returns c =
+    let l = c .before in
+    let z : l .loop .left ≡ 0 = omega arith in
+    found _ _ _ (rw (toZ-ofZ (l .before .fits .value), z) at (l .loop .inv))
+
+pub search-spec : {M : Type 1} → statement M
+search-spec =
+    tie.close
+    (tie.spec
+    Inv-loop
+    μ-loop
+    loop-holds
+    sub-left
+    add-middle
+    signed-requires
+    working-at-requires
+    at-most-requires
+    loop-less
+    loop-again
+    loop-less-2
+    loop-again-2
+    returns)

@@ -1,0 +1,3 @@
+pub mod Floor
+pub mod Largest
+pub mod Tests

@@ -1,0 +1,49 @@
+"""Quantities of the scope document, section "Quantities".
+
+Counts are whole numbers throughout: temperature in steps of 0.1 mK,
+resistance in nanoohm, ratio in units of 10^-9, reference and deviation
+values in units of 10^-11.
+"""
+
+KELVIN_OFFSET = 2_731_500
+
+READING_LEAST = 1
+DIVISOR_LEAST = 10**8
+RESISTANCE_MOST = 10**12
+
+RATIO_ONE = 10**9
+RATIO_MOST = 4_400_000_000
+
+UNITS_ONE = 10**11
+
+
+class Refused(Exception):
+    """No answer; `number` is the one of "Numbers given when there is no answer"."""
+
+    def __init__(self, number):
+        super().__init__(f"refused {number}")
+        self.number = number
+
+
+def quotient_down(z, d):
+    """The largest whole number not above z/d: "all roundings are downward"."""
+    # Floor division of whole numbers is defined for either sign of both.
+    return z // d
+
+
+def ratio(r, r0):
+    """W = R/R0 in units of 10^-9, or Refused 1, then 2."""
+    if not READING_LEAST <= r <= RESISTANCE_MOST:
+        raise Refused(1)
+    if not DIVISOR_LEAST <= r0 <= RESISTANCE_MOST:
+        raise Refused(1)
+    w = quotient_down(r * RATIO_ONE, r0)
+    # "Ratio W ... rounded down, at most 4.4": the limit is put to the rounded W.
+    if w > RATIO_MOST:
+        raise Refused(2)
+    return w
+
+
+def kelvin(celsius):
+    """The one passage from a Celsius count to a kelvin count."""
+    return celsius + KELVIN_OFFSET
