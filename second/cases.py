@@ -2,6 +2,7 @@
 
 BLOCK = 1000
 PRINTED_EVERY = 100
+PRINTED_FIRST = 40
 
 
 class CheckFailed(Exception):
@@ -50,7 +51,7 @@ def family(name, seed, size, case):
         fields = (name, *case(generator, i))
         line = (" ".join(map(str, fields)) + "\n").encode("ascii")
         h = digest(h, line)
-        if i % PRINTED_EVERY == 0:
+        if i < PRINTED_FIRST or i % PRINTED_EVERY == 0:
             printed.append(line)
         if (i + 1) % BLOCK == 0:
             printed.append(f"digest {name} {i + 1} {h}\n".encode("ascii"))

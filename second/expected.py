@@ -8,13 +8,16 @@ sys.dont_write_bytecode = True
 from itertools import zip_longest
 from pathlib import Path
 
+import curve_cases
 import ground
 from cases import CheckFailed
+from curve import allows, forward, read, tolerance
 from quantity import Refused, kelvin, quotient_down, ratio
 from reference import BELOW, PAST, PAST_TOP, TOP, inverse, working
 
 MAKERS = {
     "ground": ground.make,
+    "curve_cases": curve_cases.make,
 }
 
 USAGE = """\
@@ -26,40 +29,100 @@ usage: python3 second/expected.py              compare the files
 ROOT = Path(__file__).resolve().parent.parent
 
 
-def outcome(r, r0):
+def outcome(function, arguments):
     try:
-        return ratio(r, r0)
+        return function(*arguments)
     except Refused as refused:
         return str(refused)
 
 
-# What, found, due. The numbers due are copied from the scope document or
-# follow from it by hand; none is worked out by the functions under test,
-# save where the inverse is put to the working value.
+CLASS_A = ord("A")
+CLASS_B = ord("B")
+
+LIMIT_PASSES = (False, True, True, False)
+
+
+def about_limit(letter, bath, limit):
+    """Whether each error passes: one past the limit and the limit, either sign."""
+    errors = (-limit - 1, -limit, limit, limit + 1)
+    return tuple(allows(letter, bath, error) for error in errors)
+
+
+# What, due, then the function and its arguments. The numbers due are copied
+# from the scope document or follow from it by hand; none is worked out by the
+# functions under test, save where the inverse is put to the working value.
 SELF_CHECKS = (
-    ("card 1: working value at 0 °C", working(0), 99_996_011_000),
-    ("card 2: working value at 481 °C", working(4_810_000), 278_157_254_000),
-    ("card 9: R = 2, R0 = 3*10^8", outcome(2, 3 * 10**8), 6),
-    ("card 9: 4.4 exactly is a ratio", outcome(440 * 10**9, 10**11), 4_400_000_000),
-    ("under a unit above 4.4", outcome(440 * 10**9 + 99, 10**11), 4_400_000_000),
-    ("card 9: one unit more", outcome(440 * 10**9 + 100, 10**11), "refused 2"),
-    ("refusal 1 goes before 2", outcome(10**12, 10**8 - 1), "refused 1"),
-    ("quotient -1/2", quotient_down(-1, 2), -1),
-    ("quotient 1/-2", quotient_down(1, -2), -1),
-    ("quotient -1/-2", quotient_down(-1, -2), 0),
-    ("481 °C is 754.15 K", kelvin(4_810_000), 7_541_500),
-    ("under the first step", inverse(working(0) - 1), BELOW),
-    ("first step", inverse(working(0)), 0),
-    ("last step", inverse(working(TOP)), 9_617_800),
-    ("last value of the last step", inverse(working(PAST_TOP) - 1), 9_617_800),
-    ("past the last step", inverse(working(PAST_TOP)), PAST),
+    ("card 1: working value at 0 °C", 99_996_011_000, working, 0),
+    ("card 2: working value at 481 °C", 278_157_254_000, working, 4_810_000),
+    ("card 9: R = 2, R0 = 3*10^8", 6, ratio, 2, 3 * 10**8),
+    ("card 9: 4.4 exactly is a ratio", 4_400_000_000, ratio, 440 * 10**9, 10**11),
+    ("under a unit above 4.4", 4_400_000_000, ratio, 440 * 10**9 + 99, 10**11),
+    ("card 9: one unit more", "refused 2", ratio, 440 * 10**9 + 100, 10**11),
+    ("refusal 1 goes before 2", "refused 1", ratio, 10**12, 10**8 - 1),
+    ("quotient -1/2", -1, quotient_down, -1, 2),
+    ("quotient 1/-2", -1, quotient_down, 1, -2),
+    ("quotient -1/-2", 0, quotient_down, -1, -2),
+    ("481 °C is 754.15 K", 7_541_500, kelvin, 4_810_000),
+    ("under the first step", BELOW, inverse, working(0) - 1),
+    ("first step", 0, inverse, working(0)),
+    ("last step", 9_617_800, inverse, working(TOP)),
+    ("last value of the last step", 9_617_800, inverse, working(PAST_TOP) - 1),
+    ("past the last step", PAST, inverse, working(PAST_TOP)),
     # The table of cells prints 8 decimals.
-    ("Wr(Ag), to 8 decimals", quotient_down(working(TOP) + 500, 1000), 428_642_053),
+    ("Wr(Ag), to 8 decimals", 428_642_053, quotient_down, working(TOP) + 500, 1000),
+    ("card 7: W = 1.385055", 1_000_000, read, 1_385_055_000),
+    ("card 7: W = 0.1852008", -2_000_000, read, 185_200_800),
+    ("card 7: one unit less", "refused 8", read, 185_200_799),
+    ("card 8: W = 3.904811542", 8_500_000, read, 3_904_811_542),
+    ("card 8: W = 3.904811543", "refused 9", read, 3_904_811_543),
+    ("card 9: 4.4 exactly on the curve", "refused 9", read, 4_400_000_000),
+    ("forward at -100 °C", 602_558_400, forward, -1_000_000),
+    ("nine decimals read back", -1_000_000, read, 602_558_400),
+    # Exactly 1.000 000 390 829 994 225.
+    ("forward at one step", 1_000_000_390, forward, 1),
+    ("rounded, it reads a step below", 0, read, 1_000_000_390),
+    ("one unit more", 1, read, 1_000_000_391),
+    ("forward under the range", "refused 8", forward, -2_000_001),
+    ("forward over the range", "refused 9", forward, 8_500_001),
+    ("card 10: A at 0 °C", LIMIT_PASSES, about_limit, CLASS_A, 0, 1_500),
+    ("card 10: A at -200 °C", LIMIT_PASSES, about_limit, CLASS_A, -2_000_000, 5_500),
+    ("A at 650 °C", LIMIT_PASSES, about_limit, CLASS_A, 6_500_000, 14_500),
+    ("B at 0 °C", LIMIT_PASSES, about_limit, CLASS_B, 0, 3_000),
+    ("B at -200 °C", LIMIT_PASSES, about_limit, CLASS_B, -2_000_000, 13_000),
+    ("B at 650 °C", LIMIT_PASSES, about_limit, CLASS_B, 6_500_000, 35_500),
+    ("B at 850 °C", LIMIT_PASSES, about_limit, CLASS_B, 8_500_000, 45_500),
+    ("A, limit 1,500.998 steps", LIMIT_PASSES, about_limit, CLASS_A, 499, 1_500),
+    ("A, limit 1,501 steps", LIMIT_PASSES, about_limit, CLASS_A, -500, 1_501),
+    ("A, upper limit", (True, 1_500), tolerance, CLASS_A, 0, 100_058_662_299, 10**11),
+    ("A, past it", (False, 1_501), tolerance, CLASS_A, 0, 100_058_662_300, 10**11),
+    ("A, lower limit", (True, -1_500), tolerance, CLASS_A, 0, 99_941_374_300, 10**11),
+    ("A, past it", (False, -1_501), tolerance, CLASS_A, 0, 99_941_374_299, 10**11),
+    # The class bounds the bath; the reading keeps the curve's own range.
+    (
+        "A, bath at 650 °C, reading 651 °C",
+        (True, 10_000),
+        tolerance,
+        CLASS_A,
+        6_500_000,
+        329_955_822_300,
+        10**11,
+    ),
+    ("3 before 8", "refused 3", tolerance, ord("C"), -2_000_001, 0, 0),
+    ("3 before 9", "refused 3", tolerance, ord("a"), 8_500_001, 0, 0),
+    ("A, 8 for the bath before 1", "refused 8", tolerance, CLASS_A, -2_000_001, 0, 0),
+    ("A, 9 for the bath before 1", "refused 9", tolerance, CLASS_A, 6_500_001, 0, 0),
+    ("B, 8 for the bath before 1", "refused 8", tolerance, CLASS_B, -2_000_001, 0, 0),
+    ("B, 9 for the bath before 1", "refused 9", tolerance, CLASS_B, 8_500_001, 0, 0),
+    ("R outside its limits", "refused 1", tolerance, CLASS_B, 8_500_000, 0, 10**8),
+    ("2 before 9", "refused 2", tolerance, CLASS_B, 0, 10**12, 10**8),
+    ("W under the range", "refused 8", tolerance, CLASS_B, 0, 1, 10**8),
+    ("W over the range", "refused 9", tolerance, CLASS_B, 0, 440 * 10**9, 10**11),
 )
 
 
 def self_check():
-    for what, found, due in SELF_CHECKS:
+    for what, due, function, *arguments in SELF_CHECKS:
+        found = outcome(function, arguments)
         if found != due:
             raise CheckFailed(f"{what}: {found}, due {due}")
 

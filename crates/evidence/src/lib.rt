@@ -10,3 +10,5 @@ pub use line::natural;
 pub use line::signed;
 pub use line::text;
 pub use report::Report;
+pub use report::Written;
+pub use report::empty_line;

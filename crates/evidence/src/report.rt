@@ -1,6 +1,22 @@
+ghost use mathlib.Core.Path.{_≡_};
+ghost use lib.ListN.{length};
+use crate::generator::Generator;
 use crate::line::natural;
 use crate::line::text;
 use libc::STDOUT_FILENO;
+
+// The generator after a case, and the length of the case's line.
+pub struct Written {
+    pub generator: Generator,
+    pub len: usize,
+}
+
+// Room for a case's line.
+pub fn empty_line() -> [u8; 120]
+    ensures { λ r. ⌜ length r ≡ 120 ⌝ }
+{
+    [0; 120]
+}
 
 // How far a family of cases has come, and the digest of its block.
 pub struct Report {
@@ -29,6 +45,11 @@ fn print_digest(family: &[u8], cases: u64, digest: u64) {
     print(&line, at);
 }
 
+// The first forty cases of a family, and each hundredth.
+fn is_printed(i: u64) -> bool {
+    i < 40 || i % 100 == 0
+}
+
 impl Report {
     pub fn new() -> Report {
         Report {
@@ -37,7 +58,7 @@ impl Report {
         }
     }
 
-    // Takes in a case's line, its LF included: prints it where it is a hundredth one, and the block's digest where it ends one.
+    // Takes in a case's line, its LF included: prints it where it is one of those printed, and the block's digest where it ends one.
     pub fn case(self, family: &[u8], line: &[u8], len: usize) -> Report {
         let mut digest = self.digest;
         let mut i = 0;
@@ -47,7 +68,7 @@ impl Report {
             }
             i += 1;
         }
-        if self.cases % 100 == 0 {
+        if is_printed(self.cases) {
             print(line, len);
         }
         let cases = self.cases % 1_000_000_000 + 1;

@@ -3,20 +3,14 @@
 ghost use mathlib.Core.Path.{_≡_};
 ghost use Prim.Native.Nat.{_<_, _≤_, _^_};
 ghost use lib.IntN.{pos, natAbs};
-ghost use lib.ListN.{length};
 ghost use Rattle.reference.specs.Reference.{working};
 use evidence::Generator;
 use evidence::Report;
+use evidence::Written;
 use quantity::Celsius;
 use quantity::Nanoohm;
 use quantity::RatioAnswer;
 use reference::Inverse;
-
-// The generator after a case, and the length of the case's line.
-struct Written {
-    generator: Generator,
-    len: usize,
-}
 
 // A signed number and the generator after it.
 struct Signed {
@@ -338,14 +332,8 @@ fn one_case(family: Family, i: u64, g: Generator, line: &mut [u8]) -> Written {
     }
 }
 
-fn empty_line() -> [u8; 120]
-    ensures { λ r. ⌜ length r ≡ 120 ⌝ }
-{
-    [0; 120]
-}
-
 fn run(family: Family, name: &[u8], seed: u64, cases: u64) {
-    let mut line = empty_line();
+    let mut line = evidence::empty_line();
     let mut g = Generator::new(seed);
     let mut report = Report::new();
     let mut i: u64 = 0;

@@ -5,11 +5,11 @@ use Prim.Native.Nat.{ℕ, zero, suc, _*_, _^_, _<_}
 use native.Mathlib.Nat.{mul-pos, pow-zero, pow-succ', mul-one, one-mul}
 use native.Mathlib.Omega.{arith}
 use lib.ListN.{length}
-use lib.IntN.{ℤ, pos, pow, one, _+ℤ_, _*ℤ_, *ℤ-comm, *ℤ-one}
+use lib.IntN.{ℤ, pos, pow, one, _+ℤ_, _-ℤ_, _*ℤ_, *ℤ-comm, *ℤ-one}
 use lib.Signed.{_<ℤ_}
 use Rattle.whole.proofs.Parts.{ints, mul-parts}
-use Rattle.whole.proofs.Ring.{*ℤ-assoc, *ℤ-distribˡ, *ℤ-distribʳ, *ℤ-swap, *ℤ-cross, *ℤ-strict, *ℤ-cancel-<}
-use Rattle.polynomial.specs.Fraction.{Fraction, integer, _+ᶠ_, _*ᶠ_, _^ᶠ_, _<ᶠ_}
+use Rattle.whole.proofs.Ring.{*ℤ-assoc, *ℤ-distribˡ, *ℤ-distribʳ, *ℤ-subʳ, *ℤ-swap, *ℤ-cross, *ℤ-strict, *ℤ-cancel-<}
+use Rattle.polynomial.specs.Fraction.{Fraction, integer, _+ᶠ_, _-ᶠ_, _*ᶠ_, _^ᶠ_, _<ᶠ_}
 use Rattle.polynomial.specs.Polynomial.{terms}
 
 -- p is z / P
@@ -42,6 +42,25 @@ is-add {p} {q} {y} {z} {P} h k =
         *ℤ-assoc z b a,
         *ℤ-comm b a,
         *ℤ-distribʳ y z (a *ℤ b),
+      );
+    }
+
+pub is-sub : {p q : Fraction} {y z : ℤ} {P : ℕ} → Is p y P → Is q z P → Is (p -ᶠ q) (y -ℤ z) P
+unfolding _-ᶠ_
+is-sub {p} {q} {y} {z} {P} h k =
+    let a = pos (p .den) in
+    let b = pos (q .den) in
+    record {
+      same = cc (
+        *ℤ-subʳ (p .num *ℤ b) (q .num *ℤ a) (pos P),
+        *ℤ-swap (p .num) b (pos P),
+        *ℤ-swap (q .num) a (pos P),
+        h .same,
+        k .same,
+        *ℤ-assoc y a b,
+        *ℤ-assoc z b a,
+        *ℤ-comm b a,
+        *ℤ-subʳ y z (a *ℤ b),
       );
     }
 

@@ -1,8 +1,8 @@
 -- Exact values ("An exact value is a fraction; what is said of it is said in whole numbers, multiplied out").
-use Prim.Native.Nat.{ℕ, zero, suc, _*_, _<_}
-use native.Mathlib.Nat.{mul-pos}
+use Prim.Native.Nat.{ℕ, zero, suc, _*_, _^_, _<_}
+use native.Mathlib.Nat.{mul-pos, one-le-pow}
 use native.Mathlib.Omega.{arith}
-use lib.IntN.{ℤ, pos, _+ℤ_, _*ℤ_}
+use lib.IntN.{ℤ, pos, _+ℤ_, _-ℤ_, _*ℤ_}
 use lib.Signed.{_<ℤ_}
 
 -- num / den
@@ -11,6 +11,10 @@ pub record Fraction : Type 0 where
   pub den : ℕ
   pub positive : 0 < den
 
+-- digits·10^-places, as a decimal is printed
+abbrev pub decimal : ℤ → ℕ → Fraction
+decimal digits places = record { num = digits; den = 10 ^ places; positive = one-le-pow places 10 (omega arith) }
+
 -- z / 1
 unfoldable pub integer : ℤ → Fraction
 integer z = record { num = z; den = 1; positive = omega arith }
@@ -18,6 +22,10 @@ integer z = record { num = z; den = 1; positive = omega arith }
 infixl 6 _+ᶠ_
 unfoldable pub _+ᶠ_ : Fraction → Fraction → Fraction
 p +ᶠ q = record { num = p .num *ℤ pos (q .den) +ℤ q .num *ℤ pos (p .den); den = p .den * q .den; positive = mul-pos (p .positive) (q .positive) }
+
+infixl 6 _-ᶠ_
+unfoldable pub _-ᶠ_ : Fraction → Fraction → Fraction
+p -ᶠ q = record { num = p .num *ℤ pos (q .den) -ℤ q .num *ℤ pos (p .den); den = p .den * q .den; positive = mul-pos (p .positive) (q .positive) }
 
 infixl 7 _*ᶠ_
 unfoldable pub _*ᶠ_ : Fraction → Fraction → Fraction

@@ -48,13 +48,13 @@ pub number-unique : (x y : Refusal) → numberOf x ≡ numberOf y → x ≡ y
 number-unique x y e = sym (back x) ∙ ap refusal e ∙ back y
 
 -- none is 0, the number of an answer
-not-zero : (why : Refusal) → 0 ≡ numberOf why → ⊥
+pub not-zero : (why : Refusal) → 0 ≡ numberOf why → ⊥
 unfolding refusal table
 not-zero why e =
     let z : 1 ≡ numberOf why = subst (λ (n : ℕ). numberOf (refusal n) ≡ numberOf why) (sym e) (ap numberOf (back why)) in
     omega arith
 
-stated-unique : (x y : RatioAnswer) → stated x ≡ stated y → x ≡ y
+pub stated-unique : (x y : RatioAnswer) → stated x ≡ stated y → x ≡ y
 stated-unique (Ratio v) (Ratio w) e = ap Ratio (ap (λ (n : ℕ). record { 0 = n }) (ap (λ (o : Outcome). o .ratio) e))
 stated-unique (Ratio v) (Refused why) e =
     absurd (not-zero why (ap (λ (o : Outcome). o .code) e))

@@ -22,14 +22,11 @@ climb step p q =
     let b′ : natAbs (n step +ℤ pos 1) ≤ middle = rw (next step) at (span (step +ℤ pos 1) (omega (ints, s)) (omega (ints, s))) in
     rw (next step) (climbs middle middle (omega arith) (n step) b b′ _ _ (by-sizes _) 26_000 (omega arith))
 
-one-up : (step : ℤ) → pos 0 ≤ℤ step → step <ℤ pastLast → working step <ℤ working (step +ℤ pos 1)
+pub one-up : (step : ℤ) → pos 0 ≤ℤ step → step <ℤ pastLast → working step <ℤ working (step +ℤ pos 1)
 one-up step p q = omega (ints, climb step p q, add-parts (working step) (pos 26_000))
 
 pub rises : Increasing
 rises = rising.rises working (pos 0) pastLast one-up
-
-pub under-later : (v a b : ℤ) → pos 0 ≤ℤ a → v <ℤ working a → a ≤ℤ b → b ≤ℤ pastLast → v <ℤ working b
-under-later = rising.under-later working (pos 0) pastLast one-up
 
 -- every working value lies between those at the two ends
 pub between-ends : (step : ℤ) → pos 0 ≤ℤ step → step ≤ℤ pastLast → (working (pos 0) ≤ℤ working step) × (working step ≤ℤ working pastLast)

@@ -4,19 +4,19 @@ use lib.IntN.{ℤ, pos}
 use lib.Signed.{_≤ℤ_, _<ℤ_}
 use Rattle.whole.proofs.Parts.{ints}
 use Rattle.whole.specs.Largest.{Largest}
-use Rattle.whole.proofs.Largest.{largest-unique}
+use Rattle.whole.proofs.Largest.{largest-unique, largest-not-below, largest-not-past}
 use Rattle.reference.specs.declared.Inverse.{Inverse}
 use Rattle.reference.specs.declared.Inverse.the-variants.{Below, At, Past}
 use Rattle.reference.specs.Reference.{working, last, pastLast}
 use Rattle.reference.specs.Inverse.{Inverted}
-use Rattle.reference.proofs.Rising.{rises, under-later}
+use Rattle.reference.proofs.Rising.{one-up, rises}
 
 -- a largest step is neither below nor past the scale
 not-below : (value a : ℤ) → Largest working (pos 0) last value a → value <ℤ working (pos 0) → ⊥
-not-below value a p h = omega (ints, p .not-above, under-later value (pos 0) a (omega ints) h (p .from-first) (omega (ints, p .to-last)))
+not-below = largest-not-below working (pos 0) last one-up
 
 not-past : (value a : ℤ) → Largest working (pos 0) last value a → working pastLast ≤ℤ value → ⊥
-not-past value a p h = omega (ints, p .above pastLast (omega (ints, p .to-last)) (omega ints))
+not-past = largest-not-past working (pos 0) last one-up
 
 below-not-past : (value : ℤ) → value <ℤ working (pos 0) → working pastLast ≤ℤ value → ⊥
 below-not-past value h k = omega (ints, rises (pos 0) pastLast (omega ints) (omega ints) (omega ints))

@@ -3,6 +3,7 @@
 use mathlib.Core.Path.{_≡_, sym, _∙_, ap}
 use Prim.Native.Nat.{ℕ, suc, _+_, _*_, _<_, _≤_}
 use native.Mathlib.Nat.{mul-le-mul-right, le-of-mul-le-mul-right, lt-of-mul-lt-mul-right}
+use native.Mathlib.Decide.{decLt}
 use native.Mathlib.Omega.{arith}
 use lib.IntN.{ℤ, pos, negℤ, _+ℤ_, _-ℤ_, _*ℤ_, *ℤ-comm}
 use lib.Signed.{_≤ℤ_, _<ℤ_}
@@ -61,7 +62,17 @@ pub *ℤ-negʳ : (a b : ℤ) → a *ℤ negℤ b ≡ negℤ (a *ℤ b)
 *ℤ-negʳ a b =
     omega (ints, mul-parts a (negℤ b), mul-parts a b, neg-parts b, neg-parts (a *ℤ b), ap (λ (x : ℕ). up a * x) (neg-parts b .0), ap (λ (x : ℕ). up a * x) (neg-parts b .1), ap (λ (x : ℕ). dn a * x) (neg-parts b .0), ap (λ (x : ℕ). dn a * x) (neg-parts b .1))
 
+pub *ℤ-negˡ : (a b : ℤ) → negℤ a *ℤ b ≡ negℤ (a *ℤ b)
+*ℤ-negˡ a b = cc (*ℤ-comm (negℤ a) b, *ℤ-negʳ b a, *ℤ-comm b a)
+
 -- ---- orders
+pub strictly : (a b : ℤ) → a ≤ℤ b → (b ≡ a → ⊥) → a <ℤ b
+strictly a b h f = by (decLt (up a + dn b) (up b + dn a))
+  where
+    by : Dec (up a + dn b < up b + dn a) → a <ℤ b
+    by (yes l) = omega ints
+    by (no l) = absurd (f (omega ints))
+
 pub +ℤ-mono : (a b c d : ℤ) → a ≤ℤ b → c ≤ℤ d → (a +ℤ c) ≤ℤ (b +ℤ d)
 +ℤ-mono a b c d h k = omega (ints, add-parts a c, add-parts b d)
 

@@ -1,79 +1,37 @@
-use mathlib.Core.Path.{_≡_, refl}
-use Prim.Native.Nat.{ℕ, zero, suc, _+_, _-_, _*_, _/_, _^_, _<_, _≤_}
-use native.Mathlib.Nat.{pow-succ'}
-use native.Mathlib.Decide.{decLt}
+use mathlib.Core.Path.{_≡_}
+use Prim.Native.Nat.{ℕ, suc, _+_}
 use native.Mathlib.Omega.{arith}
-use lib.IntN.{ℤ, pos}
-use lib.Signed.{leZ, _≤ℤ_, _<ℤ_}
+use lib.IntN.{ℤ, pos, _+ℤ_}
+use lib.Signed.{leZ, _<ℤ_}
 use mir.Syntax.{w64}
 use mir.Val.{toZ, ofZ}
 use mir.Facts.{toZ-ofZ}
 use Rattle.whole.specs.Largest.{Largest}
-use Rattle.whole.proofs.Parts.{ints}
+use Rattle.whole.proofs.Parts.{ints, add-parts}
+use Rattle.whole.proofs.Largest.{largest-by-next}
+use Rattle.whole.proofs.Halving.{Between, middle, upper, lower, neighbours}
 use Rattle.whole.proofs.Machine.{back, le-yes, le-no}
 use Rattle.reference.specs.Reference.{working, last, pastLast}
-use Rattle.reference.proofs.Rising.{under-later}
+use Rattle.reference.proofs.Rising.{one-up}
 use Rattle.reference.proofs.search.Statement.{statement}
 use Rattle.reference.proofs.search.Tie as tie
 
--- the value lies between the working values at two steps, no further apart than what k halvings leave one step of
-record Between (value : ℤ) (low high k : ℕ) : Type 0 where
-  order : low < high
-  within : high ≤ 9_617_801
-  not-above : working (pos low) ≤ℤ value
-  above : value <ℤ working (pos high)
-  near : high ≤ low + 2 ^ k
+-- the working value at a step that is counted by a natural number
+abbrev at : ℕ → ℤ
+at step = working (pos step)
 
 abbrev Inv-loop : tie.InvT-loop
-Inv-loop value allowed low₀ high₀ left₀ low high left = Between (toZ w64 value) low high left
+Inv-loop value allowed low₀ high₀ left₀ low high left = Between at 9_617_801 (toZ w64 value) low high left
 
 abbrev μ-loop : tie.MeasureT-loop
 μ-loop value allowed low₀ high₀ left₀ low high left = left
 
-halving : (k : ℕ) → 0 < k → 2 ^ k ≡ 2 * 2 ^ (k - 1)
-halving zero h = absurd (omega arith)
-halving (suc k) h =
-    let e : suc k - 1 ≡ k = omega arith in
-    rw (e, pow-succ' 2 k)
-
-abbrev middle : ℕ → ℕ → ℕ
-middle low high = (low + high) / 2
-
--- one halving, by the test at the middle
-module _ {value : ℤ} {low high k : ℕ} (b : Between value low high k) (h : 0 < k) where
-  upper : working (pos (middle low high)) ≤ℤ value → Between value (middle low high) high (k - 1)
-  upper t =
-      let e = halving k h in
-      record { order = omega (arith, b .order); within = b .within; not-above = t; above = b .above; near = omega (arith, b .near, b .order) }
-
-  lower : value <ℤ working (pos (middle low high)) → Between value low (middle low high) (k - 1)
-  lower t =
-      let e = halving k h in
-      record {
-        order = by (decLt low (middle low high));
-        within = omega (arith, b .within, b .order);
-        not-above = b .not-above;
-        above = t;
-        near = omega (arith, b .near);
-      }
-    where
-      by : Dec (low < middle low high) → low < middle low high
-      by (yes p) = p
-      by (no p) =
-          let same : middle low high ≡ low = omega (arith, b .order) in
-          let t′ : value <ℤ working (pos low) = rw same at t in
-          absurd (omega (ints, b .not-above))
-
 -- neighbouring steps: the lower one is the largest
-found : (value : ℤ) (low high : ℕ) → Between value low high 0 → Largest working (pos 0) last value (pos low)
+found : (value : ℤ) (low high : ℕ) → Between at 9_617_801 value low high 0 → Largest working (pos 0) last value (pos low)
 found value low high b =
-    let e : high ≡ suc low = omega arith in
-    record {
-      from-first = omega ints;
-      to-last = omega (ints, b .within);
-      not-above = b .not-above;
-      above = λ later p q. under-later value (pos high) later (omega ints) (b .above) (omega ints) q;
-    }
+    let e = neighbours b in
+    let f : pos high ≡ pos low +ℤ pos 1 = omega (ints, add-parts (pos low) (pos 1)) in
+    largest-by-next working (pos 0) last one-up value (pos low) (omega ints) (omega (ints, b .within)) (b .not-above) (rw f at (b .above))
 
 loop-holds : tie.Need-loop-holds Inv-loop μ-loop
 loop-holds c =

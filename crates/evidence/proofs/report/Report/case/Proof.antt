@@ -28,6 +28,9 @@ loop-less c = search needs
 loop-again : tie.Need-loop-again Inv-loop μ-loop
 loop-again c = search needs
 
+is-printed-requires : tie.Need-is-printed-requires Inv-loop μ-loop
+is-printed-requires c κs = search needs
+
 print-requires : tie.Need-print-requires Inv-loop μ-loop
 print-requires c κs = search needs
 
@@ -55,6 +58,7 @@ case-spec =
     add-i
     loop-less
     loop-again
+    is-printed-requires
     print-requires
     add-cases
     print-digest-requires

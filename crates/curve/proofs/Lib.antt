@@ -1,0 +1,9 @@
+pub mod Standard
+pub mod Sides
+pub mod Rising
+pub mod Places
+pub mod Ends
+pub mod Outcomes
+pub mod Back
+pub mod Unique
+pub mod Values

@@ -1,0 +1,5 @@
+pub mod Curve
+pub mod Reading
+pub mod Forward
+pub mod Tolerance
+pub mod Promised
