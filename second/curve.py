@@ -7,7 +7,7 @@ Temperatures are Celsius counts.
 from fractions import Fraction
 
 from cases import CheckFailed
-from quantity import RATIO_ONE, Refused, quotient_down, ratio
+from quantity import RATIO_MOST, RATIO_ONE, Refused, quotient_down, ratio
 
 # As printed, to be compared with the standard by eye.
 A = Fraction("3.9083e-3")
@@ -63,7 +63,9 @@ def _multiplied(step):
 
 
 def read(w):
-    """The largest step whose exact ratio is not above `w`, or Refused 8 or 9."""
+    """The largest step whose exact ratio is not above `w`, or Refused 2, 8 or 9."""
+    if w > RATIO_MOST:
+        raise Refused(2)
     sought = Fraction(w, RATIO_ONE)
     if sought < exact_ratio(FIRST):
         raise Refused(8)

@@ -4,8 +4,8 @@ from cases import CheckFailed, family
 from curve import FIRST, LAST, forward, read, read_back, tolerance
 from quantity import Refused
 
-# Both ends of the range and 0 °C, each with its neighbour, 0 and the largest
-# 64-bit count.
+# Both ends of the range, 0 °C and the limit 4.4, each with its neighbour, 0
+# and the largest 64-bit count.
 EDGE_W = (
     185200800,
     185200799,
@@ -13,6 +13,8 @@ EDGE_W = (
     3904811543,
     1000000000,
     999999999,
+    4400000000,
+    4400000001,
     0,
     18446744073709551615,
 )

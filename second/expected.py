@@ -76,6 +76,7 @@ SELF_CHECKS = (
     ("card 8: W = 3.904811542", 8_500_000, read, 3_904_811_542),
     ("card 8: W = 3.904811543", "refused 9", read, 3_904_811_543),
     ("card 9: 4.4 exactly on the curve", "refused 9", read, 4_400_000_000),
+    ("card 9: one unit more on the curve", "refused 2", read, 4_400_000_001),
     ("forward at -100 °C", 602_558_400, forward, -1_000_000),
     ("nine decimals read back", -1_000_000, read, 602_558_400),
     # Exactly 1.000 000 390 829 994 225.

@@ -7,14 +7,15 @@ use lib.IntN.{ℤ, pos, _+ℤ_, _-ℤ_, -ℤ-+ℤ-cancel}
 use lib.Signed.{_≤ℤ_, _<ℤ_}
 use Rattle.whole.specs.Floor.{floor}
 use Rattle.whole.proofs.Parts.{ints, up, dn, add-parts, sub-parts}
+use Rattle.whole.proofs.Machine.{no-lt}
 use Rattle.whole.proofs.Ring.{strictly}
 use Rattle.whole.proofs.Rounding.{floor-parts}
 use Rattle.whole.proofs.Largest.{largest-by-next}
 use Rattle.curve.specs.Curve.{exact, units, first, last, pastLast}
 use Rattle.curve.specs.Reading.{Read}
-use Rattle.curve.specs.Promised.{ReadBack, ReadsBack}
+use Rattle.curve.specs.Promised.{ReadBack, ForwardReadsBack}
 use Rattle.curve.proofs.Rising.{climb, one-up, not-falling}
-use Rattle.curve.proofs.Ends.{at-first}
+use Rattle.curve.proofs.Ends.{at-first, within-limit}
 use Rattle.curve.proofs.Outcomes.{reads-step}
 
 pub reads : (w : ℕ) (step : ℤ) → first ≤ℤ step → step ≤ℤ last → exact step ≤ℤ units w → units w <ℤ exact (step +ℤ pos 1) → Read w (record { code = 0; step = step })
@@ -22,7 +23,8 @@ reads w step p q n a =
     let s = add-parts step (pos 1) in
     let lowest = not-falling first step (omega ints) p (omega ints) in
     let highest = not-falling (step +ℤ pos 1) pastLast (omega (ints, s)) (omega (ints, s)) (omega ints) in
-    reads-step w step (omega ints) (omega ints) (largest-by-next exact first last one-up (units w) step p q n a)
+    let h : units w <ℤ exact pastLast = omega ints in
+    reads-step w step (within-limit w h) (omega ints) h (largest-by-next exact first last one-up (units w) step p q n a)
 
 -- rounded down: not above the exact ratio, and less than a unit of 10^-9 below it
 module _ (step : ℤ) (w : ℕ) (e : pos w ≡ floor (exact step) (10 ^ 22)) where
@@ -61,5 +63,7 @@ back-below step w p q e f =
     (omega (ints, c, n, add-parts (exact before) (pos (10 ^ 22)), add-parts (units w) (pos (10 ^ 22))))
     (rw x (strictly (units w) (exact step) (not-over step w e) f))
 
-pub reads-back : ReadsBack
-reads-back step w p q e = record { same = back-same step w p q; below = back-below step w p q e }
+pub reads-back : ForwardReadsBack
+reads-back step o p q f =
+    let e = (rw (no-lt p, no-lt q) at f) .1 in
+    record { same = back-same step (o .ratio) p q; below = back-below step (o .ratio) p q e }

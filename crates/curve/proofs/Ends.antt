@@ -22,6 +22,10 @@ pub not-under-first : (w : ℕ) → 185_200_800 ≤ w → exact first ≤ℤ uni
 unfolding units
 not-under-first w h = rw at-first (omega ints)
 
+pub within-limit : (w : ℕ) → units w <ℤ exact pastLast → w ≤ 4_400_000_000
+unfolding units
+within-limit w h = let k : pos (w * 10 ^ 22) <ℤ pos (3_904_811_542_654_994_225 * 10 ^ 13) = rw at-past-last at h in omega ints
+
 pub under-past-last : (w : ℕ) → w < 3_904_811_543 → units w <ℤ exact pastLast
 unfolding units
 under-past-last w h = rw at-past-last (omega ints)

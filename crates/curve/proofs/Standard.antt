@@ -8,7 +8,7 @@ use Rattle.whole.specs.Tests.{if_then_else_}
 use Rattle.polynomial.specs.Fraction.{Fraction, decimal, integer, _+ᶠ_, _-ᶠ_, _*ᶠ_, _^ᶠ_}
 use Rattle.polynomial.proofs.Fractions.{Is, is-itself, is-integer, is-scaled, is-add, is-sub, is-mul, is-power}
 use Rattle.curve.specs.Curve.{A, B, C, standard, quadratic, quartic, exact}
-use Rattle.curve.specs.Promised.{Standard}
+use Rattle.curve.specs.Promised.{ExactIsStandard}
 
 square : (n : ℤ) → pow n 2 ≡ n *ℤ n
 unfolding pow one
@@ -45,6 +45,6 @@ module _ (n : ℤ) where
   is-either true = is-add is-quadratic is-quartic
   is-either false = is-quadratic
 
-pub is-standard : Standard
+pub is-standard : ExactIsStandard
 unfolding standard exact
 is-standard n = is-either n (ltZ n (pos 0)) .same

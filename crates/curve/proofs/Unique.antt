@@ -2,7 +2,7 @@
 use mathlib.Core.Path.{_≡_, refl, sym, _∙_, ap, ap₂}
 use mathlib.Core.Bool.{Bool}
 use Prim.Native.Nat.{ℕ, _^_}
-use lib.Dec.{eqb}
+use lib.Dec.{eqb, ltb}
 use lib.IntN.{ℤ, pos}
 use lib.Signed.{ltZ, leZ}
 use Rattle.whole.specs.Floor.{floor}
@@ -11,18 +11,20 @@ use Rattle.whole.proofs.Parts.{ints}
 use Rattle.whole.proofs.Choice.{if-both}
 use Rattle.whole.proofs.Largest.{largest-unique}
 use Rattle.quantity.specs.declared.resistance.RatioAnswer.{RatioAnswer}
+use Rattle.quantity.specs.Quantities.{largestRatio}
 use Rattle.quantity.specs.RatioAnswer as ratio
 use Rattle.quantity.specs.RatioAnswer.{ratioAnswer}
 use Rattle.quantity.proofs.Unique as quantity
-use Rattle.curve.specs.declared.reading.CurveReading.{CurveReading}
-use Rattle.curve.specs.declared.reading.CurveReading.the-variants as reading
+use Rattle.quantity.specs.declared.step.StepAnswer.{StepAnswer}
+use Rattle.quantity.specs.StepAnswer.{Outcome, stated}
+use Rattle.curve.specs.declared.tolerance.Class.{Class}
 use Rattle.curve.specs.declared.tolerance.Verdict.{Verdict}
 use Rattle.curve.specs.declared.tolerance.Verdict.the-variants as verdict
 use Rattle.curve.specs.Curve.{exact, units, first, last, pastLast}
-use Rattle.curve.specs.Reading.{Outcome, Read, ReadBy, stated}
+use Rattle.curve.specs.Reading.{Read, ReadBy}
 use Rattle.curve.specs.Forward.{Forward}
 use Rattle.curve.specs.Tolerance as tolerance
-use Rattle.curve.specs.Tolerance.{Class, classA, classB, JudgedBy, Judged, judged}
+use Rattle.curve.specs.Tolerance.{classA, classB, JudgedBy, Judged, judged}
 
 -- ---- readings
 outcome : (o o′ : Outcome) → o .code ≡ o′ .code → o .step ≡ o′ .step → o ≡ o′
@@ -30,26 +32,21 @@ outcome o o′ p q = ap₂ (λ (c : ℕ) (s : ℤ). record { code = c; step = s 
 
 read-unique : (w : ℕ) (o o′ : Outcome) → Read w o → Read w o′ → o ≡ o′
 read-unique w o o′ h k =
-    if-both (ltZ (units w) (exact first)) h k (λ a b. a ∙ sym b)
+    if-both (ltb largestRatio w) h k (λ a b. a ∙ sym b)
+    (λ h k. if-both (ltZ (units w) (exact first)) h k (λ a b. a ∙ sym b)
     (λ h k. if-both (leZ (exact pastLast) (units w)) h k (λ a b. a ∙ sym b)
-    (λ l m. outcome o o′ (l .0 ∙ sym (m .0)) (largest-unique exact first last (units w) (o .step) (o′ .step) (l .1) (m .1))))
+    (λ l m. outcome o o′ (l .0 ∙ sym (m .0)) (largest-unique exact first last (units w) (o .step) (o′ .step) (l .1) (m .1)))))
 
 read-by-unique : (r r0 : ℕ) (o o′ : Outcome) → ReadBy r r0 o → ReadBy r r0 o′ → o ≡ o′
 read-by-unique r r0 o o′ h k =
     let a = ratioAnswer r r0 in
     if-both (eqb (a .code) 0) h k (read-unique (a .ratio) o o′) (λ a b. a ∙ sym b)
 
-stated-unique : (x y : CurveReading) → stated x ≡ stated y → x ≡ y
-stated-unique (reading.At t) (reading.At u) e = ap reading.At (ap (λ (z : ℤ). record { 0 = z }) (ap (λ (o : Outcome). o .step) e))
-stated-unique (reading.At t) (reading.Refused why) e = absurd (quantity.not-zero why (ap (λ (o : Outcome). o .code) e))
-stated-unique (reading.Refused why) (reading.At u) e = absurd (quantity.not-zero why (ap (λ (o : Outcome). o .code) (sym e)))
-stated-unique (reading.Refused a) (reading.Refused b) e = ap reading.Refused (quantity.number-unique a b (ap (λ (o : Outcome). o .code) e))
+pub one-reading : (w : ℕ) (x y : StepAnswer) → Read w (stated x) → Read w (stated y) → x ≡ y
+one-reading w x y h k = quantity.step-unique x y (read-unique w (stated x) (stated y) h k)
 
-pub one-reading : (w : ℕ) (x y : CurveReading) → Read w (stated x) → Read w (stated y) → x ≡ y
-one-reading w x y h k = stated-unique x y (read-unique w (stated x) (stated y) h k)
-
-pub one-reading-by : (r r0 : ℕ) (x y : CurveReading) → ReadBy r r0 (stated x) → ReadBy r r0 (stated y) → x ≡ y
-one-reading-by r r0 x y h k = stated-unique x y (read-by-unique r r0 (stated x) (stated y) h k)
+pub one-reading-by : (r r0 : ℕ) (x y : StepAnswer) → ReadBy r r0 (stated x) → ReadBy r r0 (stated y) → x ≡ y
+one-reading-by r r0 x y h k = quantity.step-unique x y (read-by-unique r r0 (stated x) (stated y) h k)
 
 -- ---- the way back
 forward-unique : (step : ℤ) (o o′ : ratio.Outcome) → Forward step o → Forward step o′ → o ≡ o′
@@ -67,8 +64,8 @@ one-ratio step x y h k = quantity.stated-unique x y (forward-unique step (ratio.
 judged-unique : (class : Class) (bath : ℤ) (r r0 : ℕ) (o o′ : tolerance.Outcome) → JudgedBy class bath r r0 o → JudgedBy class bath r r0 o′ → o ≡ o′
 judged-unique class bath r r0 o o′ h k =
     if-both (ltZ bath first) h k (λ a b. a ∙ sym b)
-    (λ h k. if-both (ltZ (class .lastBath) bath) h k (λ a b. a ∙ sym b)
-    (λ l m. l .2 ∙ ap (judged (class .atZero) (class .slope) bath) (read-by-unique r r0 (l .0) (m .0) (l .1) (m .1)) ∙ sym (m .2)))
+    (λ h k. if-both (ltZ (class .top) bath) h k (λ a b. a ∙ sym b)
+    (λ l m. l .2 ∙ ap (judged class bath) (read-by-unique r r0 (l .0) (m .0) (l .1) (m .1)) ∙ sym (m .2)))
 
 class-unique : (letter : ℕ) (bath : ℤ) (r r0 : ℕ) (o o′ : tolerance.Outcome) → Judged letter bath r r0 o → Judged letter bath r r0 o′ → o ≡ o′
 class-unique letter bath r r0 o o′ h k =

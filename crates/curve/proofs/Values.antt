@@ -3,7 +3,8 @@ use Prim.Native.Nat.{_*_}
 use lib.IntN.{pos}
 use lib.Signed.{leZ-yes, ltZ-yes}
 use Rattle.curve.specs.Curve.{quadratic, quartic, exact, units, first, last}
-use Rattle.curve.specs.Reading.{Read, refused}
+use Rattle.curve.specs.Reading.{Read}
+use Rattle.quantity.specs.StepAnswer.{refused}
 use Rattle.curve.proofs.Ends.{under-first, not-under-first, not-under-past-last}
 use Rattle.curve.proofs.Outcomes.{reads-below, reads-past}
 use Rattle.curve.proofs.Back.{reads}
@@ -21,7 +22,7 @@ unfolding exact quadratic quartic units
 card-7-first = reads 185_200_800 first (omega ints) (omega ints) (leZ-yes tt) (ltZ-yes tt)
 
 pub card-7-below : Read 185_200_799 (refused 8)
-card-7-below = reads-below 185_200_799 (under-first 185_200_799 (omega arith))
+card-7-below = reads-below 185_200_799 (omega arith) (under-first 185_200_799 (omega arith))
 
 -- 3.904811542 is 850 °C
 pub card-8 : Read 3_904_811_542 (record { code = 0; step = last })
@@ -29,4 +30,4 @@ unfolding exact quadratic quartic units
 card-8 = reads 3_904_811_542 last (omega ints) (omega ints) (leZ-yes tt) (ltZ-yes tt)
 
 pub card-8-past : Read 3_904_811_543 (refused 9)
-card-8-past = reads-past 3_904_811_543 (not-under-first 3_904_811_543 (omega arith)) (not-under-past-last 3_904_811_543 (omega arith))
+card-8-past = reads-past 3_904_811_543 (omega arith) (not-under-first 3_904_811_543 (omega arith)) (not-under-past-last 3_904_811_543 (omega arith))

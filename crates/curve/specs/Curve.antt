@@ -24,7 +24,8 @@ standard n =
     if ltZ n (pos 0) then integer (pos 1) +ᶠ A *ᶠ t +ᶠ B *ᶠ t ^ᶠ 2 +ᶠ C *ᶠ (t -ᶠ integer (pos 100)) *ᶠ t ^ᶠ 3
     else integer (pos 1) +ᶠ A *ᶠ t +ᶠ B *ᶠ t ^ᶠ 2
 
--- The same times 10^31, a whole number: At has 7 + 4 decimals, Bt² 10 + 8, and C(t - 100)t³ 15 + 4 + 12.
+-- The same times 10^31, a whole number: At has 7 + 4 decimals and Bt² has 10 + 8, so they take the factors 10^20 and 10^13; C(t - 100)t³ has
+-- 15 + 4 + 12 and takes none. 100 °C are 1,000,000 steps.
 unfoldable pub quadratic : ℤ → ℤ
 quadratic n = pos (10 ^ 31) +ℤ A .num *ℤ n *ℤ pos (10 ^ 20) +ℤ B .num *ℤ (n *ℤ n) *ℤ pos (10 ^ 13)
 
@@ -49,6 +50,6 @@ last = pos 8_500_000
 abbrev pub pastLast : ℤ
 pastLast = last +ℤ pos 1
 
--- The step at a place, where places are counted from -200 °C on.
+-- The code counts steps by their places: place 0 is -200 °C, and each place is one step.
 unfoldable pub stepAt : ℕ → ℤ
 stepAt place = first +ℤ pos place

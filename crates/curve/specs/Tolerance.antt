@@ -7,28 +7,25 @@ use lib.IntN.{ℤ, pos, natAbs, _-ℤ_}
 use lib.Signed.{ltZ}
 use Rattle.whole.specs.Tests.{if_then_else_}
 use Rattle.quantity.specs.Refusals.{numberOf}
+use Rattle.quantity.specs.StepAnswer as reading
+use Rattle.curve.specs.declared.tolerance.Class.{Class}
 use Rattle.curve.specs.declared.tolerance.Verdict.{Verdict}
 use Rattle.curve.specs.declared.tolerance.Verdict.the-variants.{Tested, Refused}
 use Rattle.curve.specs.Curve.{first, last}
-use Rattle.curve.specs.Reading as reading
+use Rattle.curve.specs.Reading.{ReadBy}
 
--- A class: its last bath, what it allows at 0 °C in steps, and what it allows more for each step from there, in thousandths.
-pub record Class : Type 0 where
-  pub lastBath : ℤ
-  pub atZero : ℕ
-  pub slope : ℕ
-
--- 0.15 + 0.002|t| °C from -200 to 650 °C
+-- A class has its last bath, the steps that it allows at 0 °C, and the thousandths of a step that it allows more for each step of the bath from there.
+-- Class A: 0.15 + 0.002|t| °C from -200 to 650 °C
 abbrev pub classA : Class
-classA = record { lastBath = pos 6_500_000; atZero = 1_500; slope = 2 }
+classA = record { top = pos 6_500_000; fixed = 1_500; slope = 2 }
 
--- 0.3 + 0.005|t| °C from -200 to 850 °C
+-- Class B: 0.3 + 0.005|t| °C from -200 to 850 °C
 abbrev pub classB : Class
-classB = record { lastBath = last; atZero = 3_000; slope = 5 }
+classB = record { top = last; fixed = 3_000; slope = 5 }
 
 -- The limit itself passes. Both sides are multiplied by 1000, so that nothing is rounded.
-abbrev pub allows : ℕ → ℕ → ℤ → ℤ → Bool
-allows atZero slope bath error = leb (1000 * natAbs error) (1000 * atZero + slope * natAbs bath)
+abbrev pub allows : Class → ℤ → ℤ → Bool
+allows class bath error = leb (1000 * natAbs error) (1000 * class .fixed + class .slope * natAbs bath)
 
 -- The outcome as the scope document has it: the number given, 0 where there is an answer, pass or fail, and the signed error, the curve's step less the
 -- bath's; a refusal does not pass and has error 0.
@@ -46,19 +43,19 @@ stated (Tested passes error) = record { code = 0; passes = passes; error = error
 stated (Refused why) = refused (numberOf why)
 
 -- A reading judged.
-abbrev pub judged : ℕ → ℕ → ℤ → reading.Outcome → Outcome
-judged atZero slope bath read =
-    if eqb (read .code) 0 then record { code = 0; passes = allows atZero slope bath (read .step -ℤ bath); error = read .step -ℤ bath }
+abbrev pub judged : Class → ℤ → reading.Outcome → Outcome
+judged class bath read =
+    if eqb (read .code) 0 then record { code = 0; passes = allows class bath (read .step -ℤ bath); error = read .step -ℤ bath }
     else refused (read .code)
 
 -- 8 or 9: a bath outside the class's range; then what the two resistances read, judged.
 abbrev pub JudgedBy : Class → ℤ → ℕ → ℕ → Outcome → Type 0
 JudgedBy class bath r r0 o =
     if ltZ bath first then o ≡ refused 8
-    else if ltZ (class .lastBath) bath then o ≡ refused 9
-    else (read : reading.Outcome) × reading.ReadBy r r0 read × (o ≡ judged (class .atZero) (class .slope) bath read)
+    else if ltZ (class .top) bath then o ≡ refused 9
+    else (read : reading.Outcome) × ReadBy r r0 read × (o ≡ judged class bath read)
 
--- A class is named by its letter, A or B. 3: any other.
+-- A class is named by its letter, A or B (65 and 66 in ASCII). 3: any other.
 abbrev pub Judged : ℕ → ℤ → ℕ → ℕ → Outcome → Type 0
 Judged letter bath r r0 o =
     if eqb letter 65 then JudgedBy classA bath r r0 o

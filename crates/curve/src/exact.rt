@@ -4,13 +4,18 @@ ghost use Prim.Native.Nat.{_+_, _*_, _<_, _≤_, _^_};
 ghost use lib.IntN.{pos, negℤ, _+ℤ_};
 ghost use lib.Signed.{leZ};
 ghost use Rattle.whole.specs.Floor.{floor};
+ghost use Rattle.quantity.specs.Quantities.{largestRatio};
 ghost use Rattle.curve.specs.Curve.{exact, units, stepAt};
 
-// 0 °C.
+// The place of 0 °C.
 const ZERO: u64 = 2_000_000;
 
-// 10^18 units of 10^-18.
+// The ratio 1 in units of 10^-18, and what a step and its square count in the same units: A and B.
 const ONE: u64 = 1_000_000_000_000_000_000;
+
+const FOR_STEP: u64 = 390_830_000_000;
+
+const FOR_SQUARE: u64 = 5_775;
 
 // hi·10^12 + lo
 struct Wide {
@@ -34,7 +39,7 @@ fn risen(n: u64) -> u64
     requires { ⌜ n ≤ 8_500_001 ⌝ }
     ensures { λ r. ⌜ exact (pos n) ≡ pos (r * 10 ^ 13) ⌝ }
 {
-    ONE + 390_830_000_000 * n - 5_775 * (n * n)
+    ONE + FOR_STEP * n - FOR_SQUARE * (n * n)
 }
 
 // How far a ratio is under 1: units of 10^-18, and the rest in units of 10^-31.
@@ -56,14 +61,14 @@ fn fallen(m: u64) -> Fall
     };
     let q = times(times(p, m), m);
     Fall {
-        units: 390_830_000_000 * m + 5_775 * square + q.hi / 10,
+        units: FOR_STEP * m + FOR_SQUARE * square + q.hi / 10,
         rest: q.hi % 10 * 1_000_000_000_000 + q.lo,
     }
 }
 
 // Whether the exact ratio at a place is not above w.
 pub fn reached(place: u64, w: u64) -> bool
-    requires { ⌜ (place ≤ 10_500_001) × (w ≤ 4_400_000_000) ⌝ }
+    requires { ⌜ (place ≤ 10_500_001) × (w ≤ largestRatio) ⌝ }
     ensures { λ r. ⌜ r ≡ leZ (exact (stepAt place)) (units w) ⌝ }
 {
     let limit = w * 1_000_000_000;

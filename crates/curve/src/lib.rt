@@ -5,7 +5,6 @@ mod reading;
 mod tolerance;
 
 pub use forward::ratio_at;
-pub use reading::CurveReading;
 pub use reading::read;
 pub use reading::read_by;
 pub use tolerance::Verdict;

@@ -3,28 +3,26 @@ ghost use Prim.Native.Nat.{_≤_, _^_};
 ghost use lib.Signed.{_≤ℤ_, _<ℤ_};
 ghost use Rattle.whole.specs.Largest.{Largest};
 ghost use Rattle.curve.specs.Curve.{exact, units, first, last, pastLast, stepAt};
-ghost use Rattle.curve.specs.Reading.{Read, ReadBy, stated};
+ghost use Rattle.curve.specs.Reading.{Read, ReadBy};
+ghost use Rattle.quantity.specs.StepAnswer.{stated};
 use crate::exact::reached;
 use quantity::Celsius;
 use quantity::Nanoohm;
 use quantity::Ratio;
 use quantity::RatioAnswer;
 use quantity::Refusal;
-
-// A step that was read by the curve and by no other law, or the refusal.
-pub enum CurveReading {
-    At(Celsius),
-    Refused(Refusal),
-}
+use quantity::StepAnswer;
 
 // Ratios under the first are below -200 °C; the second and those over it are past 850 °C.
 const AT_FIRST: u64 = 185_200_800;
 
-const PAST_ALL: u64 = 3_904_811_543;
+const AT_PAST_LAST: u64 = 3_904_811_543;
+
+const LARGEST_RATIO: u64 = 4_400_000_000;
 
 // The largest place whose exact ratio is not above w, by halving: one exact ratio each time, and no more than are allowed.
 fn search(w: u64, allowed: u64) -> u64
-    requires { ⌜ (exact first ≤ℤ units w) × (units w <ℤ exact pastLast) × (w ≤ 4_400_000_000) ⌝ }
+    requires { ⌜ (exact first ≤ℤ units w) × (units w <ℤ exact pastLast) ⌝ }
     requires { ⌜ (10_500_001 ≤ 2 ^ allowed) × (allowed ≤ 24) ⌝ }
     ensures { λ r. ⌜ Largest exact first last (units w) (stepAt r) ⌝ }
 {
@@ -44,26 +42,29 @@ fn search(w: u64, allowed: u64) -> u64
 }
 
 // What a ratio reads.
-pub fn read(w: Ratio) -> CurveReading
+pub fn read(w: Ratio) -> StepAnswer
     ensures { λ x. ⌜ Read (w .0) (stated x) ⌝ }
 {
     let ratio = w.0;
-    if ratio < AT_FIRST {
-        return CurveReading::Refused(Refusal::BelowRange);
+    if LARGEST_RATIO < ratio {
+        return StepAnswer::Refused(Refusal::RatioAbove);
     }
-    if PAST_ALL <= ratio {
-        return CurveReading::Refused(Refusal::AboveRange);
+    if ratio < AT_FIRST {
+        return StepAnswer::Refused(Refusal::BelowRange);
+    }
+    if AT_PAST_LAST <= ratio {
+        return StepAnswer::Refused(Refusal::AboveRange);
     }
     let place = search(ratio, 24);
-    CurveReading::At(Celsius(whole::difference(whole::signed(place), 2_000_000)))
+    StepAnswer::At(Celsius(whole::difference(whole::signed(place), 2_000_000)))
 }
 
 // What two resistances read.
-pub fn read_by(r: Nanoohm, r0: Nanoohm) -> CurveReading
+pub fn read_by(r: Nanoohm, r0: Nanoohm) -> StepAnswer
     ensures { λ x. ⌜ ReadBy (r .0) (r0 .0) (stated x) ⌝ }
 {
     match quantity::ratio_of(r, r0) {
         RatioAnswer::Ratio(w) => read(w),
-        RatioAnswer::Refused(why) => CurveReading::Refused(why),
+        RatioAnswer::Refused(why) => StepAnswer::Refused(why),
     }
 }

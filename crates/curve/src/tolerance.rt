@@ -2,12 +2,12 @@ ghost use mathlib.Core.Path.{_≡_};
 ghost use Prim.Native.Nat.{_<_, _≤_, _^_};
 ghost use lib.IntN.{natAbs};
 ghost use Rattle.curve.specs.Tolerance.{JudgedBy, Judged, allows, judged, stated};
-ghost use Rattle.curve.specs.Reading.{stated as readingStated};
-use crate::reading::CurveReading;
+ghost use Rattle.quantity.specs.StepAnswer.{stated as readingStated};
 use crate::reading::read_by;
 use quantity::Celsius;
 use quantity::Nanoohm;
 use quantity::Refusal;
+use quantity::StepAnswer;
 
 // Whether a thermometer is within its class, and its error in steps: the curve's step less the bath's.
 pub enum Verdict {
@@ -15,55 +15,73 @@ pub enum Verdict {
     Refused(Refusal),
 }
 
-// Whether an error is within what is allowed at 0 °C, in steps, and the slope more for each step of the bath, in thousandths.
-fn allowed(fixed: u64, slope: u64, bath: i64, error: i64) -> bool
-    requires { ⌜ (fixed ≤ 3_000) × (slope ≤ 5) × (natAbs bath < 2 ^ 32) × (natAbs error < 2 ^ 32) ⌝ }
-    ensures { λ b. ⌜ b ≡ allows fixed slope bath error ⌝ }
+// What a class allows: baths up to a last one, the steps at 0 °C, and the thousandths of a step more for each step of the bath from there.
+pub struct Class {
+    pub top: i64,
+    pub fixed: u64,
+    pub slope: u64,
+}
+
+// Whether the class allows the error; the limit itself passes.
+fn allowed(class: Class, bath: i64, error: i64) -> bool
+    requires { ⌜ (class .fixed ≤ 3_000) × (class .slope ≤ 5) × (natAbs bath < 2 ^ 32) × (natAbs error < 2 ^ 32) ⌝ }
+    ensures { λ b. ⌜ b ≡ allows class bath error ⌝ }
 {
+    let fixed = class.fixed;
+    let slope = class.slope;
     1000 * whole::magnitude(error) <= 1000 * fixed + slope * whole::magnitude(bath)
 }
 
 // A reading judged against the bath.
-fn judged_reading(fixed: u64, slope: u64, bath: i64, reading: CurveReading) -> Verdict
-    requires { ⌜ (fixed ≤ 3_000) × (slope ≤ 5) × (natAbs bath < 2 ^ 31) × (natAbs (readingStated reading .step) < 2 ^ 31) ⌝ }
-    ensures { λ v. ⌜ stated v ≡ judged fixed slope bath (readingStated reading) ⌝ }
+fn judged_reading(class: Class, bath: i64, reading: StepAnswer) -> Verdict
+    requires { ⌜ (class .fixed ≤ 3_000) × (class .slope ≤ 5) × (natAbs bath < 2 ^ 31) × (natAbs (readingStated reading .step) < 2 ^ 31) ⌝ }
+    ensures { λ v. ⌜ stated v ≡ judged class bath (readingStated reading) ⌝ }
 {
     match reading {
-        CurveReading::At(step) => {
+        StepAnswer::At(step) => {
             let error = whole::difference(step.0, bath);
             Verdict::Tested {
-                passes: allowed(fixed, slope, bath, error),
+                passes: allowed(class, bath, error),
                 error,
             }
         }
-        CurveReading::Refused(why) => Verdict::Refused(why),
+        StepAnswer::Refused(why) => Verdict::Refused(why),
     }
 }
 
-// By a class that goes up to a last bath.
-fn judge_by(top: i64, fixed: u64, slope: u64, bath: i64, r: Nanoohm, r0: Nanoohm) -> Verdict
-    requires { ⌜ (fixed ≤ 3_000) × (slope ≤ 5) × (natAbs top < 2 ^ 31) ⌝ }
-    ensures { λ v. ⌜ JudgedBy (record { lastBath = top; atZero = fixed; slope = slope }) bath (r .0) (r0 .0) (stated v) ⌝ }
+fn judge_by(class: Class, bath: i64, r: Nanoohm, r0: Nanoohm) -> Verdict
+    requires { ⌜ (class .fixed ≤ 3_000) × (class .slope ≤ 5) × (natAbs (class .top) < 2 ^ 31) ⌝ }
+    ensures { λ v. ⌜ JudgedBy class bath (r .0) (r0 .0) (stated v) ⌝ }
 {
     if whole::less(bath, -2_000_000) {
         return Verdict::Refused(Refusal::BelowRange);
     }
-    if whole::less(top, bath) {
+    if whole::less(class.top, bath) {
         return Verdict::Refused(Refusal::AboveRange);
     }
-    judged_reading(fixed, slope, bath, read_by(r, r0))
+    judged_reading(class, bath, read_by(r, r0))
 }
 
 // A tolerance test. The class is named by its letter.
-pub fn judge(class: u8, bath: Celsius, r: Nanoohm, r0: Nanoohm) -> Verdict
-    ensures { λ v. ⌜ Judged class (bath .0) (r .0) (r0 .0) (stated v) ⌝ }
+pub fn judge(letter: u8, bath: Celsius, r: Nanoohm, r0: Nanoohm) -> Verdict
+    ensures { λ v. ⌜ Judged letter (bath .0) (r .0) (r0 .0) (stated v) ⌝ }
 {
     let t = bath.0;
-    if class == b'A' {
-        return judge_by(6_500_000, 1_500, 2, t, r, r0);
+    if letter == b'A' {
+        let class = Class {
+            top: 6_500_000,
+            fixed: 1_500,
+            slope: 2,
+        };
+        return judge_by(class, t, r, r0);
     }
-    if class == b'B' {
-        return judge_by(8_500_000, 3_000, 5, t, r, r0);
+    if letter == b'B' {
+        let class = Class {
+            top: 8_500_000,
+            fixed: 3_000,
+            slope: 5,
+        };
+        return judge_by(class, t, r, r0);
     }
     Verdict::Refused(Refusal::NameUnknown)
 }

@@ -3,7 +3,6 @@
 ghost use mathlib.Core.Path.{_≡_};
 ghost use Prim.Native.Nat.{_<_, _≤_, _^_};
 ghost use lib.IntN.{pos, natAbs, _-ℤ_};
-use curve::CurveReading;
 use curve::Verdict;
 use evidence::Drawn;
 use evidence::Generator;
@@ -13,6 +12,7 @@ use quantity::Celsius;
 use quantity::Nanoohm;
 use quantity::Ratio;
 use quantity::RatioAnswer;
+use quantity::StepAnswer;
 
 // A signed number and the generator after it.
 struct Signed {
@@ -45,10 +45,10 @@ fn refused_text(line: &mut [u8], from: usize, why: quantity::Refusal) -> usize {
     evidence::natural(line, at, why.number() as u64)
 }
 
-fn reading_text(line: &mut [u8], from: usize, reading: CurveReading) -> usize {
+fn reading_text(line: &mut [u8], from: usize, reading: StepAnswer) -> usize {
     match reading {
-        CurveReading::At(step) => evidence::signed(line, from, step.0),
-        CurveReading::Refused(why) => refused_text(line, from, why),
+        StepAnswer::At(step) => evidence::signed(line, from, step.0),
+        StepAnswer::Refused(why) => refused_text(line, from, why),
     }
 }
 
@@ -62,13 +62,15 @@ fn ratio_or_zero(step: i64) -> u64 {
 
 // ---- ratios read
 
-const EDGE_RATIOS: [u64; 8] = [
+const EDGE_RATIOS: [u64; 10] = [
     185_200_800,
     185_200_799,
     3_904_811_542,
     3_904_811_543,
     1_000_000_000,
     999_999_999,
+    4_400_000_000,
+    4_400_000_001,
     0,
     18_446_744_073_709_551_615,
 ];
@@ -113,7 +115,7 @@ fn drawn_ratio(g: Generator) -> Drawn {
 }
 
 fn ratio_for(i: u64, g: Generator) -> Drawn {
-    if i < 8 {
+    if i < 10 {
         let at = i as usize;
         return Drawn {
             generator: g,

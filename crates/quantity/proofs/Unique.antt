@@ -1,14 +1,18 @@
--- A promise on the ratio allows one outcome only, and no two refusals have one number.
+-- A promise on the ratio allows one outcome only, no two refusals have one number, and no two answers state the same.
 use mathlib.Core.Path.{_≡_, refl, sym, _∙_, ap, subst}
 use mathlib.Core.List.{List, [], _∷_}
 use Prim.Native.Nat.{ℕ, _-_}
+use lib.IntN.{ℤ}
 use native.Mathlib.Omega.{arith}
 use lib.ListN.{getD}
 use Rattle.quantity.specs.declared.refusal.Refusal.{Refusal}
 use Rattle.quantity.specs.declared.refusal.Refusal.the-variants.{ResistanceOutside, RatioAbove, NameUnknown, CellNotMeasured, PurityCellNotMeasured, Impure, BeyondLimit, BelowRange, AboveRange, IllFormed, BufferShort}
 use Rattle.quantity.specs.declared.resistance.RatioAnswer.{RatioAnswer}
 use Rattle.quantity.specs.declared.resistance.RatioAnswer.the-variants.{Ratio, Refused}
+use Rattle.quantity.specs.declared.step.StepAnswer.{StepAnswer}
+use Rattle.quantity.specs.declared.step.StepAnswer.the-variants as step
 use Rattle.quantity.specs.Refusals.{numberOf}
+use Rattle.quantity.specs.StepAnswer as stepped
 use Rattle.quantity.specs.RatioAnswer.{Outcome, stated, ratioAnswer}
 
 -- the refusals by their numbers, from 1
@@ -64,3 +68,9 @@ stated-unique (Refused x) (Refused y) e = ap Refused (number-unique x y (ap (λ 
 
 pub only-one : (r r0 : ℕ) (x y : RatioAnswer) → stated x ≡ ratioAnswer r r0 → stated y ≡ ratioAnswer r r0 → x ≡ y
 only-one r r0 x y p q = stated-unique x y (p ∙ sym q)
+
+pub step-unique : (x y : StepAnswer) → stepped.stated x ≡ stepped.stated y → x ≡ y
+step-unique (step.At t) (step.At u) e = ap step.At (ap (λ (z : ℤ). record { 0 = z }) (ap (λ (o : stepped.Outcome). o .step) e))
+step-unique (step.At t) (step.Refused why) e = absurd (not-zero why (ap (λ (o : stepped.Outcome). o .code) e))
+step-unique (step.Refused why) (step.At u) e = absurd (not-zero why (ap (λ (o : stepped.Outcome). o .code) (sym e)))
+step-unique (step.Refused a) (step.Refused b) e = ap step.Refused (number-unique a b (ap (λ (o : stepped.Outcome). o .code) e))

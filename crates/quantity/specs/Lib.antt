@@ -1,3 +1,4 @@
 pub mod Quantities
 pub mod Refusals
 pub mod RatioAnswer
+pub mod StepAnswer

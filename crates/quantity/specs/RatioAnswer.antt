@@ -13,14 +13,17 @@ pub record Outcome : Type 0 where
   pub code : ℕ
   pub ratio : ℕ
 
+abbrev pub refused : ℕ → Outcome
+refused number = record { code = number; ratio = 0 }
+
 -- What each case stands for.
 abbrev pub stated : RatioAnswer → Outcome
 stated (Ratio w) = record { code = 0; ratio = w .0 }
-stated (Refused why) = record { code = numberOf why; ratio = 0 }
+stated (Refused why) = refused (numberOf why)
 
 -- 1: R or R0 outside its limits; then 2: a ratio above 4.4; else the ratio.
 abbrev pub ratioAnswer : ℕ → ℕ → Outcome
 ratioAnswer r r0 =
-    if not (isReading r && isDivisor r0) then record { code = 1; ratio = 0 }
-    else if ltb largestRatio (ratioOf r r0) then record { code = 2; ratio = 0 }
+    if not (isReading r && isDivisor r0) then refused 1
+    else if ltb largestRatio (ratioOf r r0) then refused 2
     else record { code = 0; ratio = ratioOf r r0 }

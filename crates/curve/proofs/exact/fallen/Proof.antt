@@ -46,11 +46,7 @@ rejoin : (x : ℕ) → x / 10 ^ 12 * 10 ^ 12 + x % 10 ^ 12 ≡ x
 rejoin x = omega arith
 
 once : (c : tie.After-times) → c .times .result .hi * 10 ^ 12 + c .times .result .lo ≡ 4_183 * (c .before .args .m * (c .before .args .m + 1_000_000)) * c .before .args .m
-once c =
-    let m = c .before .args .m in
-    let x = 4_183 * (m * (m + 1_000_000)) in
-    let e : c .times .result .hi * 10 ^ 12 + c .times .result .lo ≡ (x / 10 ^ 12 * 10 ^ 12 + x % 10 ^ 12) * m = c .times .ensures .0 in
-    rw (rejoin x) at e
+once c = rw rejoin at (c .times .ensures .0)
 
 twice : (c : tie.After-times2) → c .times2 .result .hi * 10 ^ 12 + c .times2 .result .lo ≡ 4_183 * (c .before .before .args .m * (c .before .before .args .m + 1_000_000)) * c .before .before .args .m * c .before .before .args .m
 twice c = rw (once (c .before)) at (c .times2 .ensures .0)

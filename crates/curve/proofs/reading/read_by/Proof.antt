@@ -1,19 +1,12 @@
 use borrow.Author.Needs.{needs}
-use borrow.Author.Tests.{ne-eqb}
-use mathlib.Core.Path.{_≡_, refl, sym, _∙_, ap, subst}
-use Rattle.whole.specs.Tests.{if_then_else_}
-use Rattle.quantity.specs.declared.resistance.RatioAnswer.{RatioAnswer}
-use Rattle.quantity.specs.declared.refusal.Refusal.{Refusal}
+use mathlib.Core.Path.{_≡_, sym, _∙_, ap, subst}
 use Rattle.quantity.specs.Refusals.{numberOf}
 use Rattle.quantity.specs.RatioAnswer as ratio
-use Rattle.quantity.proofs.Unique.{not-zero}
-use Rattle.curve.specs.Reading.{Outcome, ReadAs, refused, stated}
+use Rattle.quantity.specs.StepAnswer.{ReadOf, refused, stated}
+use Rattle.quantity.proofs.Answered.{passes-on}
+use Rattle.curve.specs.Reading.{Read}
 use Rattle.curve.proofs.reading.read_by.Statement.{statement}
 use Rattle.curve.proofs.reading.read_by.Tie as tie
-
--- what is refused stays refused by its number
-passed-on : (why : Refusal) → ReadAs (record { code = numberOf why; ratio = 0 }) (refused (numberOf why))
-passed-on why = rw (ne-eqb (numberOf why) 0 (λ e. not-zero why (sym e))) refl
 
 ratio-of-requires : tie.Need-ratio-of-requires
 ratio-of-requires c κs = search needs
@@ -30,13 +23,13 @@ enum-known-why c = search needs
 returns : tie.Need-returns
 returns c =
     let b = c .before .before in
-    subst (λ (a : ratio.Outcome). ReadAs a (stated (c .read .result))) (ap ratio.stated (sym (b .w .given .1)) ∙ b .before .before .ratio-of .ensures) (c .read .ensures)
+    subst (λ (a : ratio.Outcome). ReadOf Read a (stated (c .read .result))) (ap ratio.stated (sym (b .w .given .1)) ∙ b .before .before .ratio-of .ensures) (c .read .ensures)
 
 returns-2 : tie.Need-returns-2
 returns-2 c =
     let b = c .before in
     let why = b .why .given .0 .0 in
-    subst (λ (a : ratio.Outcome). ReadAs a (refused (numberOf why))) (ap ratio.stated (sym (b .why .given .1)) ∙ b .before .before .ratio-of .ensures) (passed-on why)
+    subst (λ (a : ratio.Outcome). ReadOf Read a (refused (numberOf why))) (ap ratio.stated (sym (b .why .given .1)) ∙ b .before .before .ratio-of .ensures) (passes-on Read why)
 
 pub read-by-spec : {M : Type 1} → statement M
 read-by-spec =

@@ -10,6 +10,7 @@ use Rattle.whole.proofs.Largest.{largest-by-next}
 use Rattle.whole.proofs.Halving.{Between, middle, upper, lower, neighbours}
 use Rattle.curve.specs.Curve.{exact, units, first, last, stepAt}
 use Rattle.curve.proofs.Rising.{one-up}
+use Rattle.curve.proofs.Ends.{within-limit}
 use Rattle.curve.proofs.Places.{from-first, to-last, next-place}
 use Rattle.curve.proofs.reading.search.Statement.{statement}
 use Rattle.curve.proofs.reading.search.Tie as tie
@@ -49,7 +50,7 @@ add-middle : tie.Need-add-middle Inv-loop μ-loop
 add-middle c = omega arith
 
 reached-requires : tie.Need-reached-requires Inv-loop μ-loop
-reached-requires c κs = (omega arith, c .before .before .pre .0 .2)
+reached-requires c κs = (omega arith, within-limit (c .before .before .args .w) (c .before .before .pre .0 .1))
 
 loop-less : tie.Need-loop-less Inv-loop μ-loop
 loop-less c = omega arith

@@ -21,7 +21,7 @@ mul-result-2 c = search needs
 magnitude-requires-2 : tie.Need-magnitude-requires-2
 magnitude-requires-2 c κs = search needs
 
-sloped : (c : tie.After-magnitude2) → c .before .before .args .slope * c .magnitude2 .result ≤ 5 * 2 ^ 32
+sloped : (c : tie.After-magnitude2) → c .before .before .args .class .slope * c .magnitude2 .result ≤ 5 * 2 ^ 32
 sloped c =
     let s = c .before .before in
     let b : c .magnitude2 .result ≤ 2 ^ 32 = rw (c .magnitude2 .ensures, toZ-ofZ (s .fits .bath)) (le-of-lt (s .pre .2)) in

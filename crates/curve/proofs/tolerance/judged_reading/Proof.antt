@@ -12,7 +12,7 @@ use Rattle.whole.proofs.Machine.{back}
 use Rattle.whole.proofs.Size.{abs-sub, difference-fits}
 use Rattle.quantity.specs.Refusals.{numberOf}
 use Rattle.quantity.proofs.Unique.{not-zero}
-use Rattle.curve.specs.declared.reading.CurveReading.the-variants.{At, Refused}
+use Rattle.quantity.specs.declared.step.StepAnswer.the-variants.{At, Refused}
 use Rattle.curve.specs.Tolerance.{Outcome}
 use borrow.Author.Needs.{needs}
 use Rattle.curve.proofs.tolerance.judged_reading.Statement.{statement}
