@@ -76,6 +76,15 @@ quotient-near z d =
       add-parts (negsuc d *ℤ quotient z (negsuc d)) (negsuc d),
     )
 
+-- the only number of which both hold
+pub quotient-unique : (z k : ℤ) (d : ℕ) → z ≤ℤ (negsuc d *ℤ k) → (negsuc d *ℤ k +ℤ negsuc d) <ℤ z → quotient z (negsuc d) ≡ k
+quotient-unique z k d p q =
+    let n = neg-parts z in
+    let m = mul-parts (negsuc d) k in
+    let m′ = mul-parts (pos (suc d)) k in
+    floor-unique (negℤ z) k (suc d) (omega arith) (omega (ints, n, m, m′))
+    (omega (ints, n, m, m′, add-parts (negsuc d *ℤ k) (negsuc d), add-parts (pos (suc d) *ℤ k) (pos (suc d))))
+
 pub quotient-within : (z d : ℤ) (k : ℕ) → (d ≡ pos 0 → ⊥) → natAbs z ≤ natAbs d * k → natAbs (quotient z d) ≤ k
 quotient-within z (pos zero) k h p = absurd (h refl)
 quotient-within z (pos (suc d)) k h p = floor-within z (suc d) k (omega arith) p
