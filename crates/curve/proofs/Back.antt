@@ -13,7 +13,7 @@ use Rattle.whole.proofs.Rounding.{floor-parts}
 use Rattle.whole.proofs.Largest.{largest-by-next}
 use Rattle.curve.specs.Curve.{exact, units, first, last, pastLast}
 use Rattle.curve.specs.Reading.{Read}
-use Rattle.curve.specs.Promised.{ReadBack, ForwardReadsBack}
+use Rattle.curve.specs.Promised.{ForwardReadsBack}
 use Rattle.curve.proofs.Rising.{climb, one-up, not-falling}
 use Rattle.curve.proofs.Ends.{at-first, within-limit}
 use Rattle.curve.proofs.Outcomes.{reads-step}

@@ -1,12 +1,11 @@
 -- What a ratio reads, from the side on which it lies.
-use mathlib.Core.Path.{_≡_, refl}
+use mathlib.Core.Path.{refl}
 use Prim.Native.Nat.{ℕ, _<_, _≤_, _^_}
 use borrow.Author.Tests.{lt-ltb, le-ltb}
 use native.Mathlib.Omega.{arith}
 use lib.Dec.{eqb, ltb}
-use lib.IntN.{ℤ, pos, natAbs}
+use lib.IntN.{ℤ, natAbs}
 use lib.Signed.{ltZ, leZ, _≤ℤ_, _<ℤ_}
-use Rattle.whole.specs.Tests.{if_then_else_}
 use Rattle.whole.specs.Largest.{Largest}
 use Rattle.whole.proofs.Parts.{ints, abs-parts, one-part}
 use Rattle.whole.proofs.Machine.{yes-lt, no-lt, yes-le, no-le}

@@ -1,16 +1,15 @@
 -- Places, which are counted from -200 °C on, and what the code finds of the exact ratio at one.
-use mathlib.Core.Path.{_≡_, ap}
-use mathlib.Core.Bool.{Bool}
+use mathlib.Core.Path.{_≡_, refl}
 use Prim.Native.Nat.{ℕ, _+_, _*_, _-_, _/_, _<_, _≤_, _^_}
 use native.Mathlib.Nat.{mul-le-mul}
 use native.Mathlib.Omega.{arith}
 use lib.Dec.{leb}
 use lib.IntN.{ℤ, pos, negℤ, _+ℤ_, _-ℤ_}
 use lib.Signed.{leZ, _≤ℤ_}
-use Rattle.whole.specs.Floor.{floor}
 use Rattle.whole.proofs.Parts.{ints, add-parts, sub-parts, neg-parts}
 use Rattle.whole.proofs.Machine.{same-test}
-use Rattle.curve.specs.Curve.{exact, units, first, last, stepAt}
+use Rattle.curve.specs.Curve.{exact, units, first, last}
+use Rattle.curve.specs.Places.{stepAt}
 use Rattle.curve.proofs.Sides.{fallen, exact-down}
 
 -- ---- the step at a place
@@ -22,9 +21,13 @@ pub above : (place : ℕ) → 2_000_000 ≤ place → stepAt place ≡ pos (plac
 unfolding stepAt
 above place h = omega (ints, add-parts first (pos place))
 
-pub as-difference : (place : ℕ) → pos place -ℤ pos 2_000_000 ≡ stepAt place
+pub as-sum : (place : ℕ) → first +ℤ pos place ≡ stepAt place
 unfolding stepAt
-as-difference place = omega (ints, sub-parts (pos place) (pos 2_000_000), add-parts first (pos place))
+as-sum place = refl
+
+pub as-difference : (step : ℤ) (place : ℕ) → step -ℤ first ≡ pos place → stepAt place ≡ step
+unfolding stepAt
+as-difference step place e = omega (ints, sub-parts step first, add-parts first (pos place))
 
 pub from-first : (place : ℕ) → first ≤ℤ stepAt place
 unfolding stepAt

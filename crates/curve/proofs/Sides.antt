@@ -1,10 +1,10 @@
 -- The exact ratio on the two sides of 0 °C, as natural numbers.
-use mathlib.Core.Path.{_≡_, refl, sym, _∙_, ap}
-use Prim.Native.Nat.{ℕ, zero, suc, _+_, _*_, _-_, _<_, _≤_, _^_, zero-le}
-use native.Mathlib.Nat.{mul-le-mul, mul-le-mul-right}
+use mathlib.Core.Path.{_≡_, refl, _∙_, ap}
+use Prim.Native.Nat.{ℕ, zero, suc, _+_, _*_, _-_, _≤_, _^_, zero-le}
+use native.Mathlib.Nat.{mul-le-mul-right}
 use native.Mathlib.Omega.{arith}
 use borrow.Author.Tests.{le-ltb}
-use lib.IntN.{ℤ, pos, negsuc, negℤ, _+ℤ_, _-ℤ_, _*ℤ_}
+use lib.IntN.{pos, negsuc, negℤ, _+ℤ_, _*ℤ_}
 use Rattle.whole.proofs.Parts.{ints, add-parts, neg-parts}
 use Rattle.whole.proofs.Ring.{*ℤ-negˡ, *ℤ-negʳ}
 use Rattle.curve.specs.Curve.{quadratic, quartic, exact}

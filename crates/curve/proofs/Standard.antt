@@ -1,10 +1,10 @@
 -- The exact ratio in whole numbers is the standard's formula.
 use mathlib.Core.Path.{_≡_, ap}
 use mathlib.Core.Bool.{Bool, true, false}
-use Prim.Native.Nat.{ℕ, _^_}
-use lib.IntN.{ℤ, pos, pow, one, _+ℤ_, _-ℤ_, _*ℤ_, *ℤ-comm, *ℤ-one}
+use Prim.Native.Nat.{_^_}
+use lib.IntN.{ℤ, pos, pow, one, _+ℤ_, _*ℤ_, *ℤ-comm, *ℤ-one}
 use lib.Signed.{ltZ}
-use Rattle.whole.specs.Tests.{if_then_else_}
+use Rattle.whole.specs.Choice.{if_then_else_}
 use Rattle.polynomial.specs.Fraction.{Fraction, decimal, integer, _+ᶠ_, _-ᶠ_, _*ᶠ_, _^ᶠ_}
 use Rattle.polynomial.proofs.Fractions.{Is, is-itself, is-integer, is-scaled, is-add, is-sub, is-mul, is-power}
 use Rattle.curve.specs.Curve.{A, B, C, standard, quadratic, quartic, exact}

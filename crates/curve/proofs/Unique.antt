@@ -1,12 +1,9 @@
 -- Each promise of the curve allows one outcome only.
-use mathlib.Core.Path.{_≡_, refl, sym, _∙_, ap, ap₂}
-use mathlib.Core.Bool.{Bool}
-use Prim.Native.Nat.{ℕ, _^_}
+use mathlib.Core.Path.{_≡_, sym, _∙_, ap, ap₂}
+use Prim.Native.Nat.{ℕ}
 use lib.Dec.{eqb, ltb}
 use lib.IntN.{ℤ, pos}
 use lib.Signed.{ltZ, leZ}
-use Rattle.whole.specs.Floor.{floor}
-use Rattle.whole.specs.Tests.{if_then_else_}
 use Rattle.whole.proofs.Parts.{ints}
 use Rattle.whole.proofs.Choice.{if-both}
 use Rattle.whole.proofs.Largest.{largest-unique}

@@ -1,5 +1,4 @@
 -- Bench cards 7 and 8, which the checker computes.
-use Prim.Native.Nat.{_*_}
 use lib.IntN.{pos}
 use lib.Signed.{leZ-yes, ltZ-yes}
 use Rattle.curve.specs.Curve.{quadratic, quartic, exact, units, first, last}

@@ -2,7 +2,7 @@
 use Prim.Native.Nat.{ℕ, _*_, _^_}
 use lib.IntN.{ℤ, pos, negℤ, _+ℤ_, _-ℤ_, _*ℤ_}
 use lib.Signed.{ltZ}
-use Rattle.whole.specs.Tests.{if_then_else_}
+use Rattle.whole.specs.Choice.{if_then_else_}
 use Rattle.polynomial.specs.Fraction.{Fraction, decimal, integer, _+ᶠ_, _-ᶠ_, _*ᶠ_, _^ᶠ_}
 
 -- A = 3.9083·10^-3
@@ -49,7 +49,3 @@ last = pos 8_500_000
 
 abbrev pub pastLast : ℤ
 pastLast = last +ℤ pos 1
-
--- The code counts steps by their places: place 0 is -200 °C, and each place is one step.
-unfoldable pub stepAt : ℕ → ℤ
-stepAt place = first +ℤ pos place

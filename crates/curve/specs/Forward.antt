@@ -4,7 +4,7 @@ use Prim.Native.Nat.{_^_}
 use lib.IntN.{ℤ, pos}
 use lib.Signed.{ltZ}
 use Rattle.whole.specs.Floor.{floor}
-use Rattle.whole.specs.Tests.{if_then_else_}
+use Rattle.whole.specs.Choice.{if_then_else_}
 use Rattle.quantity.specs.RatioAnswer.{Outcome, refused}
 use Rattle.curve.specs.Curve.{exact, first, last}
 

@@ -3,3 +3,4 @@ pub mod Reading
 pub mod Forward
 pub mod Tolerance
 pub mod Promised
+pub mod Places

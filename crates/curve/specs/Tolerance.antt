@@ -5,7 +5,7 @@ use Prim.Native.Nat.{ℕ, _+_, _*_}
 use lib.Dec.{eqb, leb}
 use lib.IntN.{ℤ, pos, natAbs, _-ℤ_}
 use lib.Signed.{ltZ}
-use Rattle.whole.specs.Tests.{if_then_else_}
+use Rattle.whole.specs.Choice.{if_then_else_}
 use Rattle.quantity.specs.Refusals.{numberOf}
 use Rattle.quantity.specs.StepAnswer as reading
 use Rattle.curve.specs.declared.tolerance.Class.{Class}
@@ -14,7 +14,9 @@ use Rattle.curve.specs.declared.tolerance.Verdict.the-variants.{Tested, 
 use Rattle.curve.specs.Curve.{first, last}
 use Rattle.curve.specs.Reading.{ReadBy}
 
--- A class has its last bath, the steps that it allows at 0 °C, and the thousandths of a step that it allows more for each step of the bath from there.
+-- A class says its last bath (`top`), the steps of error that it allows at 0 °C (`fixed`), and how many thousandths of a step it allows more for each step
+-- of the bath from there (`slope`).
+
 -- Class A: 0.15 + 0.002|t| °C from -200 to 650 °C
 abbrev pub classA : Class
 classA = record { top = pos 6_500_000; fixed = 1_500; slope = 2 }

@@ -5,10 +5,18 @@ ghost use lib.IntN.{pos, negℤ, _+ℤ_};
 ghost use lib.Signed.{leZ};
 ghost use Rattle.whole.specs.Floor.{floor};
 ghost use Rattle.quantity.specs.Quantities.{largestRatio};
-ghost use Rattle.curve.specs.Curve.{exact, units, stepAt};
+ghost use Rattle.curve.specs.Curve.{exact, units};
+ghost use Rattle.curve.specs.Places.{stepAt};
 
-// The place of 0 °C.
+// The curve runs from -200 °C to 850 °C.
+pub const FIRST: i64 = -2_000_000;
+
+pub const LAST: i64 = 8_500_000;
+
+// The place of 0 °C, and the one past that of 850 °C.
 const ZERO: u64 = 2_000_000;
+
+pub const PAST_LAST: u64 = 10_500_001;
 
 // The ratio 1 in units of 10^-18, and what a step and its square count in the same units: A and B.
 const ONE: u64 = 1_000_000_000_000_000_000;
@@ -43,9 +51,9 @@ fn risen(n: u64) -> u64
 }
 
 // How far a ratio is under 1: units of 10^-18, and the rest in units of 10^-31.
-pub struct Fall {
-    pub units: u64,
-    pub rest: u64,
+struct Fall {
+    units: u64,
+    rest: u64,
 }
 
 // Below 0 °C, m steps under it. The fourth power passes 64 bits, so that term is worked in two parts.

@@ -1,10 +1,12 @@
-ghost use mathlib.Core.Path.{_≡_};
 ghost use Prim.Native.Nat.{_≤_, _^_};
 ghost use lib.Signed.{_≤ℤ_, _<ℤ_};
 ghost use Rattle.whole.specs.Largest.{Largest};
-ghost use Rattle.curve.specs.Curve.{exact, units, first, last, pastLast, stepAt};
+ghost use Rattle.curve.specs.Curve.{exact, units, first, last, pastLast};
+ghost use Rattle.curve.specs.Places.{stepAt};
 ghost use Rattle.curve.specs.Reading.{Read, ReadBy};
 ghost use Rattle.quantity.specs.StepAnswer.{stated};
+use crate::exact::FIRST;
+use crate::exact::PAST_LAST;
 use crate::exact::reached;
 use quantity::Celsius;
 use quantity::Nanoohm;
@@ -18,8 +20,6 @@ const AT_FIRST: u64 = 185_200_800;
 
 const AT_PAST_LAST: u64 = 3_904_811_543;
 
-const LARGEST_RATIO: u64 = 4_400_000_000;
-
 // The largest place whose exact ratio is not above w, by halving: one exact ratio each time, and no more than are allowed.
 fn search(w: u64, allowed: u64) -> u64
     requires { ⌜ (exact first ≤ℤ units w) × (units w <ℤ exact pastLast) ⌝ }
@@ -27,7 +27,7 @@ fn search(w: u64, allowed: u64) -> u64
     ensures { λ r. ⌜ Largest exact first last (units w) (stepAt r) ⌝ }
 {
     let mut low: u64 = 0;
-    let mut high: u64 = 10_500_001;
+    let mut high: u64 = PAST_LAST;
     let mut left = allowed;
     while 0 < left {
         left -= 1;
@@ -46,7 +46,7 @@ pub fn read(w: Ratio) -> StepAnswer
     ensures { λ x. ⌜ Read (w .0) (stated x) ⌝ }
 {
     let ratio = w.0;
-    if LARGEST_RATIO < ratio {
+    if quantity::LARGEST_RATIO < ratio {
         return StepAnswer::Refused(Refusal::RatioAbove);
     }
     if ratio < AT_FIRST {
@@ -56,7 +56,7 @@ pub fn read(w: Ratio) -> StepAnswer
         return StepAnswer::Refused(Refusal::AboveRange);
     }
     let place = search(ratio, 24);
-    StepAnswer::At(Celsius(whole::difference(whole::signed(place), 2_000_000)))
+    StepAnswer::At(Celsius(whole::sum(FIRST, whole::signed(place))))
 }
 
 // What two resistances read.

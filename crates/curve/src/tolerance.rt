@@ -3,6 +3,8 @@ ghost use Prim.Native.Nat.{_<_, _≤_, _^_};
 ghost use lib.IntN.{natAbs};
 ghost use Rattle.curve.specs.Tolerance.{JudgedBy, Judged, allows, judged, stated};
 ghost use Rattle.quantity.specs.StepAnswer.{stated as readingStated};
+use crate::exact::FIRST;
+use crate::exact::LAST;
 use crate::reading::read_by;
 use quantity::Celsius;
 use quantity::Nanoohm;
@@ -53,7 +55,7 @@ fn judge_by(class: Class, bath: i64, r: Nanoohm, r0: Nanoohm) -> Verdict
     requires { ⌜ (class .fixed ≤ 3_000) × (class .slope ≤ 5) × (natAbs (class .top) < 2 ^ 31) ⌝ }
     ensures { λ v. ⌜ JudgedBy class bath (r .0) (r0 .0) (stated v) ⌝ }
 {
-    if whole::less(bath, -2_000_000) {
+    if whole::less(bath, FIRST) {
         return Verdict::Refused(Refusal::BelowRange);
     }
     if whole::less(class.top, bath) {
@@ -77,7 +79,7 @@ pub fn judge(letter: u8, bath: Celsius, r: Nanoohm, r0: Nanoohm) -> Verdict
     }
     if letter == b'B' {
         let class = Class {
-            top: 8_500_000,
+            top: LAST,
             fixed: 3_000,
             slope: 5,
         };

@@ -1,7 +1,7 @@
 // Cases of the curve: ratios read, steps taken forward and read again, tolerance tests. The second program makes what is expected
 // (second/curve_cases.py, where the families of cases are described).
 ghost use mathlib.Core.Path.{_≡_};
-ghost use Prim.Native.Nat.{_<_, _≤_, _^_};
+ghost use Prim.Native.Nat.{_<_, _^_};
 ghost use lib.IntN.{pos, natAbs, _-ℤ_};
 use curve::Verdict;
 use evidence::Drawn;

@@ -26,43 +26,30 @@ is-integer z P = record { same = omega (ints, mul-parts (z *ℤ pos P) (pos 1)) 
 pub is-scaled : {p : Fraction} {z : ℤ} {P : ℕ} (Q : ℕ) → Is p z P → Is p (z *ℤ pos Q) (P * Q)
 is-scaled {p} {z} {P} Q h = record { same = cc (h .same, *ℤ-assoc (p .num) (pos P) (pos Q), *ℤ-swap z (pos (p .den)) (pos Q)) }
 
-pub is-add : {p q : Fraction} {y z : ℤ} {P : ℕ} → Is p y P → Is q z P → Is (p +ᶠ q) (y +ℤ z) P
-unfolding _+ᶠ_
-is-add {p} {q} {y} {z} {P} h k =
+-- a sum or a difference over one denominator, by the law that it is multiplied term by term
+combined : (op : ℤ → ℤ → ℤ) → ((a b c : ℤ) → op a b *ℤ c ≡ op (a *ℤ c) (b *ℤ c)) → {p q : Fraction} {y z : ℤ} {P : ℕ} → Is p y P → Is q z P → op (p .num *ℤ pos (q .den)) (q .num *ℤ pos (p .den)) *ℤ pos P ≡ op y z *ℤ (pos (p .den) *ℤ pos (q .den))
+combined op each {p} {q} {y} {z} {P} h k =
     let a = pos (p .den) in
     let b = pos (q .den) in
-    record {
-      same = cc (
-        *ℤ-distribʳ (p .num *ℤ b) (q .num *ℤ a) (pos P),
-        *ℤ-swap (p .num) b (pos P),
-        *ℤ-swap (q .num) a (pos P),
-        h .same,
-        k .same,
-        *ℤ-assoc y a b,
-        *ℤ-assoc z b a,
-        *ℤ-comm b a,
-        *ℤ-distribʳ y z (a *ℤ b),
-      );
-    }
+    cc (
+      each (p .num *ℤ b) (q .num *ℤ a) (pos P),
+      *ℤ-swap (p .num) b (pos P),
+      *ℤ-swap (q .num) a (pos P),
+      h .same,
+      k .same,
+      *ℤ-assoc y a b,
+      *ℤ-assoc z b a,
+      *ℤ-comm b a,
+      each y z (a *ℤ b),
+    )
+
+pub is-add : {p q : Fraction} {y z : ℤ} {P : ℕ} → Is p y P → Is q z P → Is (p +ᶠ q) (y +ℤ z) P
+unfolding _+ᶠ_
+is-add h k = record { same = combined _+ℤ_ *ℤ-distribʳ h k }
 
 pub is-sub : {p q : Fraction} {y z : ℤ} {P : ℕ} → Is p y P → Is q z P → Is (p -ᶠ q) (y -ℤ z) P
 unfolding _-ᶠ_
-is-sub {p} {q} {y} {z} {P} h k =
-    let a = pos (p .den) in
-    let b = pos (q .den) in
-    record {
-      same = cc (
-        *ℤ-subʳ (p .num *ℤ b) (q .num *ℤ a) (pos P),
-        *ℤ-swap (p .num) b (pos P),
-        *ℤ-swap (q .num) a (pos P),
-        h .same,
-        k .same,
-        *ℤ-assoc y a b,
-        *ℤ-assoc z b a,
-        *ℤ-comm b a,
-        *ℤ-subʳ y z (a *ℤ b),
-      );
-    }
+is-sub h k = record { same = combined _-ℤ_ *ℤ-subʳ h k }
 
 pub is-mul : {p q : Fraction} {y z : ℤ} {P Q : ℕ} → Is p y P → Is q z Q → Is (p *ᶠ q) (y *ℤ z) (P * Q)
 unfolding _*ᶠ_

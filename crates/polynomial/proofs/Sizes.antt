@@ -2,7 +2,7 @@
 use mathlib.Core.List.{List, [], _∷_}
 use Prim.Native.Nat.{ℕ, _+_, _*_, _/_, _<_, _≤_}
 use native.Mathlib.Omega.{arith}
-use lib.IntN.{ℤ, natAbs, _+ℤ_, _*ℤ_}
+use lib.IntN.{ℤ, natAbs, _*ℤ_}
 use Rattle.whole.specs.Floor.{floor}
 use Rattle.whole.proofs.Size.{abs-add, abs-product}
 use Rattle.whole.proofs.Rounding.{abs-floor}

@@ -1,11 +1,10 @@
 -- What a ratio that was answered is, and that a number passes on: callers need not open the tests.
 use mathlib.Core.Path.{_≡_, refl, sym, _∙_, ap}
-use mathlib.Core.Bool.{Bool, true, false, not, _&&_}
+use mathlib.Core.Bool.{Bool, true, false, _&&_}
 use Prim.Native.Nat.{ℕ, _≤_}
 use native.Mathlib.Omega.{arith}
-use borrow.Author.Tests.{leb-true, ltb-false, ne-eqb}
+use borrow.Author.Tests.{ltb-false, ne-eqb}
 use lib.Dec.{ltb}
-use Rattle.whole.specs.Tests.{if_then_else_}
 use Rattle.quantity.specs.Quantities.{isReading, isDivisor, ratioOf, largestRatio}
 use Rattle.quantity.specs.declared.refusal.Refusal.{Refusal}
 use Rattle.quantity.specs.Refusals.{numberOf}

@@ -1,6 +1,6 @@
 -- Ratios that the checker computes: bench card 9, and both sides of each limit.
 use mathlib.Core.Path.{_≡_, refl}
-use Rattle.quantity.specs.RatioAnswer.{Outcome, ratioAnswer}
+use Rattle.quantity.specs.RatioAnswer.{ratioAnswer}
 
 six-units : ratioAnswer 2 300_000_000 ≡ record { code = 0; ratio = 6 }
 six-units = refl

@@ -8,22 +8,25 @@ use lib.IntN.{ℤ, pos, _+ℤ_}
 abbrev pub kelvinOf : ℤ → ℤ
 kelvinOf celsius = celsius +ℤ pos 2_731_500
 
--- No resistance is above 10^12 nΩ.
+-- The limits of a resistance, in nΩ.
 abbrev pub largestResistance : ℕ
 largestResistance = 10 ^ 12
 
--- A reading R is 1 nΩ or more.
+abbrev pub leastDivisor : ℕ
+leastDivisor = 10 ^ 8
+
+-- A reading R is 1 to 10^12 nΩ.
 abbrev pub isReading : ℕ → Bool
 isReading r = leb 1 r && leb r largestResistance
 
--- A divisor R0 is 10^8 nΩ or more.
+-- A divisor R0 is 10^8 to 10^12 nΩ.
 abbrev pub isDivisor : ℕ → Bool
-isDivisor r0 = leb (10 ^ 8) r0 && leb r0 largestResistance
+isDivisor r0 = leb leastDivisor r0 && leb r0 largestResistance
 
 -- W = R/R0 in units of 10^-9, rounded down.
 abbrev pub ratioOf : ℕ → ℕ → ℕ
 ratioOf r r0 = r * 10 ^ 9 / r0
 
--- 4.4
+-- A ratio is at most 4.4.
 abbrev pub largestRatio : ℕ
 largestRatio = 4_400_000_000

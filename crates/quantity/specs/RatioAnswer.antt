@@ -2,7 +2,7 @@
 use mathlib.Core.Bool.{_&&_, not}
 use Prim.Native.Nat.{ℕ}
 use lib.Dec.{ltb}
-use Rattle.whole.specs.Tests.{if_then_else_}
+use Rattle.whole.specs.Choice.{if_then_else_}
 use Rattle.quantity.specs.declared.resistance.RatioAnswer.{RatioAnswer}
 use Rattle.quantity.specs.declared.resistance.RatioAnswer.the-variants.{Ratio, Refused}
 use Rattle.quantity.specs.Quantities.{isReading, isDivisor, ratioOf, largestRatio}

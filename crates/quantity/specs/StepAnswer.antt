@@ -3,7 +3,7 @@ use mathlib.Core.Path.{_≡_}
 use Prim.Native.Nat.{ℕ}
 use lib.Dec.{eqb}
 use lib.IntN.{ℤ, pos}
-use Rattle.whole.specs.Tests.{if_then_else_}
+use Rattle.whole.specs.Choice.{if_then_else_}
 use Rattle.quantity.specs.declared.step.StepAnswer.{StepAnswer}
 use Rattle.quantity.specs.declared.step.StepAnswer.the-variants.{At, Refused}
 use Rattle.quantity.specs.Refusals.{numberOf}

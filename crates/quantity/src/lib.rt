@@ -5,6 +5,7 @@ mod step;
 mod temperature;
 
 pub use refusal::Refusal;
+pub use resistance::LARGEST_RATIO;
 pub use resistance::Nanoohm;
 pub use resistance::Ratio;
 pub use resistance::RatioAnswer;

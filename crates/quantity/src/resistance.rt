@@ -1,8 +1,8 @@
 ghost use mathlib.Core.Path.{_≡_};
 ghost use mathlib.Core.Bool.{_&&_};
-ghost use Prim.Native.Nat.{_≤_, _^_};
+ghost use Prim.Native.Nat.{_≤_};
 ghost use lib.Dec.{leb};
-ghost use Rattle.quantity.specs.Quantities.{largestResistance, ratioOf};
+ghost use Rattle.quantity.specs.Quantities.{largestResistance, leastDivisor, ratioOf};
 ghost use Rattle.quantity.specs.RatioAnswer.{ratioAnswer, stated};
 use crate::refusal::Refusal;
 
@@ -21,7 +21,8 @@ const LARGEST: u64 = 1_000_000_000_000;
 
 const LEAST_DIVISOR: u64 = 100_000_000;
 
-const LARGEST_RATIO: u64 = 4_400_000_000;
+// 4.4
+pub const LARGEST_RATIO: u64 = 4_400_000_000;
 
 fn within(x: u64, least: u64, most: u64) -> bool
     ensures { λ b. ⌜ b ≡ (leb least x && leb x most) ⌝ }
@@ -31,7 +32,7 @@ fn within(x: u64, least: u64, most: u64) -> bool
 
 // R/R0 in units of 10^-9, rounded down. R times 10^9 would pass 64 bits, so six decimals come first and three more from what is left.
 fn nine_decimals(r: u64, r0: u64) -> u64
-    requires { ⌜ (r ≤ largestResistance) × (10 ^ 8 ≤ r0) × (r0 ≤ largestResistance) ⌝ }
+    requires { ⌜ (r ≤ largestResistance) × (leastDivisor ≤ r0) × (r0 ≤ largestResistance) ⌝ }
     ensures { λ w. ⌜ w ≡ ratioOf r r0 ⌝ }
 {
     let millionfold = r * 1_000_000;

@@ -10,6 +10,9 @@ pub struct Celsius(pub i64);
 // Steps from absolute zero.
 pub struct Kelvin(pub u64);
 
+// 0 °C in kelvin steps.
+const ICE: u64 = 2_731_500;
+
 impl Celsius {
     // The one passage between the two counts, from absolute zero up.
     pub fn to_kelvin(self) -> Kelvin
@@ -17,9 +20,10 @@ impl Celsius {
         ensures { λ r. ⌜ pos (r .0) ≡ kelvinOf (self .0) ⌝ }
     {
         let t = self.0;
+        let size = whole::magnitude(t);
         if whole::at_most(0, t) {
-            return Kelvin(whole::natural(t) + 2_731_500);
+            return Kelvin(ICE + size);
         }
-        Kelvin(whole::natural(whole::sum(t, 2_731_500)))
+        Kelvin(ICE - size)
     }
 }

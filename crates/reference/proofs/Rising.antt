@@ -1,12 +1,10 @@
 -- The working value strictly rises with the step.
-use mathlib.Core.Path.{_≡_}
 use Prim.Native.Nat.{_≤_}
 use native.Mathlib.Omega.{arith}
 use lib.IntN.{ℤ, pos, natAbs, _+ℤ_}
 use lib.Signed.{_≤ℤ_, _<ℤ_}
 use Rattle.whole.proofs.Parts.{ints, add-parts}
 use Rattle.whole.proofs.Rising as rising
-use Rattle.polynomial.specs.Polynomial.{rounded}
 use Rattle.polynomial.proofs.Sizes.{size, by-sizes}
 use Rattle.polynomial.proofs.Rise.{spread, climbs}
 use Rattle.reference.specs.Reference.{n, working, middle, pastLast}

@@ -40,7 +40,7 @@ working step = rounded middle (n step) C₀ C₁₋₉
 unfoldable pub exact : ℤ → Fraction
 exact step = exactly (record { num = n step; den = middle; positive = omega arith }) C₀ C₁₋₉
 
--- The last step of the scale, 961.78 °C, and the one past it, up to which the two promises below go.
+-- The last step of the scale, 961.78 °C, and the one past it, up to which something is promised of the working value.
 abbrev pub last : ℤ
 last = pos 9_617_800
 

@@ -1,6 +1,6 @@
 -- A statement that goes by a test.
 use mathlib.Core.Bool.{Bool, true, false}
-use Rattle.whole.specs.Tests.{if_then_else_}
+use Rattle.whole.specs.Choice.{if_then_else_}
 
 pub if-cases {ℓ} : {P : Type ℓ} {X Y : Type 0} (t : Bool) → (if t then X else Y) → (X → P) → (Y → P) → P
 if-cases true h f g = f h

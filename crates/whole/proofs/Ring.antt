@@ -1,13 +1,12 @@
 -- The integers as a ring, and how its operations keep an order. Laws that `lib.IntN` has (associativity and commutativity of the sum, commutativity of
 -- the product, 0 and 1) are cited from there.
-use mathlib.Core.Path.{_≡_, sym, _∙_, ap}
+use mathlib.Core.Path.{_≡_, ap}
 use Prim.Native.Nat.{ℕ, suc, _+_, _*_, _<_, _≤_}
 use native.Mathlib.Nat.{mul-le-mul-right, le-of-mul-le-mul-right, lt-of-mul-lt-mul-right}
 use native.Mathlib.Decide.{decLt}
-use native.Mathlib.Omega.{arith}
 use lib.IntN.{ℤ, pos, negℤ, _+ℤ_, _-ℤ_, _*ℤ_, *ℤ-comm}
 use lib.Signed.{_≤ℤ_, _<ℤ_}
-use Rattle.whole.proofs.Parts.{up, dn, ints, add-parts, sub-parts, neg-parts, mul-parts, parts→eq, le→parts, lt→parts}
+use Rattle.whole.proofs.Parts.{up, dn, ints, add-parts, sub-parts, neg-parts, mul-parts, le→parts, lt→parts}
 
 pub *ℤ-distribˡ : (a b c : ℤ) → a *ℤ (b +ℤ c) ≡ a *ℤ b +ℤ a *ℤ c
 *ℤ-distribˡ a b c =

@@ -1,11 +1,10 @@
 -- A function that rises at each step of a range rises over any distance in it.
 use mathlib.Core.Path.{_≡_}
-use Prim.Native.Nat.{ℕ, zero, suc, _+_, _-_, _<_, _≤_}
+use Prim.Native.Nat.{ℕ, zero, suc, _+_, _-_, _<_}
 use native.Mathlib.Decide.{decLt}
-use native.Mathlib.Omega.{arith}
-use lib.IntN.{ℤ, pos, natAbs, _+ℤ_, _-ℤ_}
+use lib.IntN.{ℤ, pos, _+ℤ_}
 use lib.Signed.{_≤ℤ_, _<ℤ_}
-use Rattle.whole.proofs.Parts.{ints, up, dn, add-parts, parts→eq}
+use Rattle.whole.proofs.Parts.{ints, up, dn, add-parts}
 
 module _ (f : ℤ → ℤ) (least most : ℤ) (step : (s : ℤ) → least ≤ℤ s → s <ℤ most → f s <ℤ f (s +ℤ pos 1)) where
   from : (a : ℤ) (k : ℕ) → least ≤ℤ a → (a +ℤ pos (suc k)) ≤ℤ most → f a <ℤ f (a +ℤ pos (suc k))

@@ -1,14 +1,14 @@
 -- What `floor` and `quotient` are: the one whole number between a quotient and the quotient less one.
-use mathlib.Core.Path.{_≡_, refl, ap}
+use mathlib.Core.Path.{_≡_, refl}
 use Prim.Native.Nat.{ℕ, zero, suc, _+_, _*_, _/_, _<_, _≤_, _^_}
 use native.Mathlib.Nat.{div-add-mod, mod-lt, lt-of-mul-lt-mul-left}
 use native.Mathlib.Omega.{arith}
-use lib.IntN.{ℤ, pos, negsuc, negℤ, natAbs, _+ℤ_, _-ℤ_, _*ℤ_}
+use lib.IntN.{ℤ, pos, negsuc, negℤ, natAbs, _+ℤ_, _*ℤ_}
 use lib.Signed.{_≤ℤ_, _<ℤ_}
 use mir.Syntax.{w64}
 use mir.Val.{SFits}
 use Rattle.whole.specs.Floor.{floor, quotient}
-use Rattle.whole.proofs.Parts.{up, dn, ints, add-parts, sub-parts, neg-parts, mul-parts, abs-parts}
+use Rattle.whole.proofs.Parts.{up, dn, ints, add-parts, neg-parts, mul-parts, abs-parts}
 use Rattle.whole.proofs.Size.{abs-of, abs-neg, abs→fits}
 
 -- d q ≤ z < d q + d, of the parts

@@ -1,3 +1,3 @@
+pub mod Choice
 pub mod Floor
 pub mod Largest
-pub mod Tests

@@ -4,8 +4,6 @@ use mathlib.Core.Path.{_≡_}
 use lib.ListN.{length}
 use Rattle.curve_cases.proofs.run.Statement.{statement}
 use Rattle.curve_cases.proofs.run.Tie as tie
-use Rattle.evidence.proofs.generator.Generator.new.Reads as generator-Generator-new-reads
-use Rattle.evidence.proofs.report.Report.new.Reads as report-Report-new-reads
 
 abbrev Inv-loop : tie.InvT-loop
 Inv-loop family name seed cases line₀ g₀ report₀ i₀ line g report i = (i ≤ cases) × (length line ≡ 120)

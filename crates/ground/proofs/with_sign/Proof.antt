@@ -1,6 +1,5 @@
 use borrow.Author.Needs.{needs}
-use mathlib.Core.Path.{_≡_}
-use lib.IntN.{ℤ, pos, natAbs, _-ℤ_}
+use lib.IntN.{pos, _-ℤ_}
 use Rattle.whole.proofs.Parts.{ints, sub-parts, abs-parts, one-part}
 use Rattle.whole.proofs.Machine.{back}
 use Rattle.ground.proofs.with_sign.Statement.{statement}

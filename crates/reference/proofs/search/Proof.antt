@@ -1,8 +1,8 @@
 use mathlib.Core.Path.{_≡_}
-use Prim.Native.Nat.{ℕ, suc, _+_}
+use Prim.Native.Nat.{ℕ}
 use native.Mathlib.Omega.{arith}
 use lib.IntN.{ℤ, pos, _+ℤ_}
-use lib.Signed.{leZ, _<ℤ_}
+use lib.Signed.{leZ}
 use mir.Syntax.{w64}
 use mir.Val.{toZ, ofZ}
 use mir.Facts.{toZ-ofZ}
@@ -11,7 +11,7 @@ use Rattle.whole.proofs.Parts.{ints, add-parts}
 use Rattle.whole.proofs.Largest.{largest-by-next}
 use Rattle.whole.proofs.Halving.{Between, middle, upper, lower, neighbours}
 use Rattle.whole.proofs.Machine.{back, le-yes, le-no}
-use Rattle.reference.specs.Reference.{working, last, pastLast}
+use Rattle.reference.specs.Reference.{working, last}
 use Rattle.reference.proofs.Rising.{one-up}
 use Rattle.reference.proofs.search.Statement.{statement}
 use Rattle.reference.proofs.search.Tie as tie

@@ -1,5 +1,4 @@
 use borrow.Author.Needs.{needs}
-use mathlib.Core.Path.{_≡_}
 use lib.IntN.{pos, negsuc, _-ℤ_}
 use Rattle.whole.proofs.Parts.{ints, sub-parts, one-part, parts→fits}
 use Rattle.whole.proofs.Machine.{back}

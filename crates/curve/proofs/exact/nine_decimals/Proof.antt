@@ -2,7 +2,8 @@ use mathlib.Core.Path.{_≡_, refl, ap}
 use Prim.Native.Nat.{ℕ, zero, suc, _+_, _*_, _-_, _<_, _≤_, _^_}
 use native.Mathlib.Omega.{arith}
 use lib.IntN.{pos}
-use Rattle.curve.specs.Curve.{exact, stepAt}
+use Rattle.curve.specs.Curve.{exact}
+use Rattle.curve.specs.Places.{stepAt}
 use Rattle.curve.proofs.Places.{above, not-over-one, exact-below, cut-whole, cut-rest, cut-up}
 use borrow.Author.Needs.{needs}
 use Rattle.curve.proofs.exact.nine_decimals.Statement.{statement}

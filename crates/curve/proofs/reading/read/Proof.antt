@@ -1,10 +1,10 @@
 use native.Mathlib.Omega.{arith}
 use lib.IntN.{pos}
-use Rattle.whole.proofs.Parts.{ints}
 use Rattle.whole.proofs.Machine.{back}
-use Rattle.whole.proofs.Size.{difference-fits}
-use Rattle.curve.specs.Curve.{stepAt}
-use Rattle.curve.proofs.Places.{as-difference, place-bound}
+use Rattle.whole.proofs.Size.{sum-fits}
+use Rattle.curve.specs.Curve.{first}
+use Rattle.curve.specs.Places.{stepAt}
+use Rattle.curve.proofs.Places.{as-sum, place-bound}
 use Rattle.curve.proofs.Ends.{under-first, not-under-first, under-past-last, not-under-past-last}
 use Rattle.curve.proofs.Outcomes.{reads-above, reads-below, reads-past, reads-step}
 use Rattle.curve.proofs.reading.read.Statement.{statement}
@@ -31,19 +31,19 @@ search-requires c κs =
 signed-requires : tie.Need-signed-requires
 signed-requires c κs = omega (arith, place-bound (c .search .result) (c .search .ensures .to-last))
 
-difference-requires : tie.Need-difference-requires
-difference-requires c κs =
+sum-requires : tie.Need-sum-requires
+sum-requires c κs =
     let place = c .before .search .result in
-    rw (back _ (c .signed .ok), c .signed .ensures) (difference-fits (pos place) (pos 2_000_000) (omega (arith, place-bound place (c .before .search .ensures .to-last))))
+    rw (back _ (c .signed .ok), c .signed .ensures) (sum-fits first (pos place) (omega (arith, place-bound place (c .before .search .ensures .to-last))))
 
 returns-4 : tie.Need-returns-4
 returns-4 c =
     let s = c .before .before in
     let w = s .before .before .before .before .args .w .0 in
-    rw (back _ (c .difference .ok), c .difference .ensures, back _ (c .before .signed .ok), c .before .signed .ensures, as-difference (s .search .result))
+    rw (back _ (c .sum .ok), c .sum .ensures, back _ (c .before .signed .ok), c .before .signed .ensures, as-sum (s .search .result))
     (reads-step w (stepAt (s .search .result)) (omega arith) (not-under-first w (omega arith)) (under-past-last w (omega arith)) (s .search .ensures))
 
 pub read-spec : {M : Type 1} → statement M
 read-spec =
     tie.close
-    (tie.spec returns returns-2 returns-3 search-requires signed-requires difference-requires returns-4)
+    (tie.spec returns returns-2 returns-3 search-requires signed-requires sum-requires returns-4)

@@ -1,5 +1,5 @@
 use borrow.Author.Needs.{needs}
-use mathlib.Core.Path.{_≡_, sym, _∙_, ap, subst}
+use mathlib.Core.Path.{sym, _∙_, ap, subst}
 use Rattle.quantity.specs.Refusals.{numberOf}
 use Rattle.quantity.specs.RatioAnswer as ratio
 use Rattle.quantity.specs.StepAnswer.{ReadOf, refused, stated}

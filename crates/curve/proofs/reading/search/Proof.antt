@@ -1,14 +1,15 @@
 use mathlib.Core.Path.{_≡_}
-use Prim.Native.Nat.{ℕ, suc, _+_}
+use Prim.Native.Nat.{ℕ, _+_}
 use native.Mathlib.Numerals.{add-one}
 use native.Mathlib.Omega.{arith}
-use lib.IntN.{ℤ, pos, _+ℤ_}
-use lib.Signed.{leZ, _<ℤ_}
+use lib.IntN.{ℤ}
+use lib.Signed.{_<ℤ_}
 use Rattle.whole.specs.Largest.{Largest}
 use Rattle.whole.proofs.Machine.{le-yes, le-no}
 use Rattle.whole.proofs.Largest.{largest-by-next}
-use Rattle.whole.proofs.Halving.{Between, middle, upper, lower, neighbours}
-use Rattle.curve.specs.Curve.{exact, units, first, last, stepAt}
+use Rattle.whole.proofs.Halving.{Between, upper, lower, neighbours}
+use Rattle.curve.specs.Curve.{exact, units, first, last}
+use Rattle.curve.specs.Places.{stepAt}
 use Rattle.curve.proofs.Rising.{one-up}
 use Rattle.curve.proofs.Ends.{within-limit}
 use Rattle.curve.proofs.Places.{from-first, to-last, next-place}

@@ -2,7 +2,6 @@ use borrow.Author.Tests.{eq-eqb, ne-eqb}
 use mir.Syntax.{w64}
 use mir.Val.{SFits}
 use mir.Facts.{toZ-ofZ}
-use Rattle.whole.specs.Tests.{if_then_else_}
 use borrow.Author.Needs.{needs}
 use Rattle.curve.proofs.tolerance.judge.Statement.{statement}
 use Rattle.curve.proofs.tolerance.judge.Tie as tie

@@ -2,7 +2,6 @@ use lib.Signed.{_≤ℤ_, _<ℤ_}
 use mir.Syntax.{w64}
 use mir.Val.{SFits}
 use mir.Facts.{toZ-ofZ}
-use Rattle.whole.specs.Tests.{if_then_else_}
 use Rattle.whole.proofs.Parts.{ints, abs-parts, one-part}
 use Rattle.whole.proofs.Machine.{lt-yes, lt-no, yes-lt, no-lt}
 use Rattle.curve.specs.Curve.{first}

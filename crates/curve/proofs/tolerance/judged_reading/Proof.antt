@@ -7,13 +7,11 @@ use lib.IntN.{natAbs, _-ℤ_}
 use mir.Syntax.{w64}
 use mir.Val.{SFits}
 use mir.Facts.{toZ-ofZ}
-use Rattle.whole.specs.Tests.{if_then_else_}
 use Rattle.whole.proofs.Machine.{back}
 use Rattle.whole.proofs.Size.{abs-sub, difference-fits}
 use Rattle.quantity.specs.Refusals.{numberOf}
 use Rattle.quantity.proofs.Unique.{not-zero}
 use Rattle.quantity.specs.declared.step.StepAnswer.the-variants.{At, Refused}
-use Rattle.curve.specs.Tolerance.{Outcome}
 use borrow.Author.Needs.{needs}
 use Rattle.curve.proofs.tolerance.judged_reading.Statement.{statement}
 use Rattle.curve.proofs.tolerance.judged_reading.Tie as tie

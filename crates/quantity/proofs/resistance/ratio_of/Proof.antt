@@ -51,14 +51,14 @@ returns-3 : tie.Need-returns-3
 returns-3 c =
     let e = c .before .before in
     let s = e .before .before .before .before .args in
-    let above : largestRatio < ratioOf (s .r .0) (s .r0 .0) = rw (c .before .nine-decimals .ensures) at (c .if3 .taken) in
+    let above : largestRatio < ratioOf (s .r .0) (s .r0 .0) = omega (arith, c .before .nine-decimals .ensures) in
     rw (reading (e .before .before), divisor e, lt-ltb _ _ above)
 
 returns-4 : tie.Need-returns-4
 returns-4 c =
     let e = c .before .before in
     let s = e .before .before .before .before .args in
-    let passes : ratioOf (s .r .0) (s .r0 .0) ≤ largestRatio = rw (c .before .nine-decimals .ensures) at (c .if3 .left) in
+    let passes : ratioOf (s .r .0) (s .r0 .0) ≤ largestRatio = omega (arith, c .before .nine-decimals .ensures) in
     rw (reading (e .before .before), divisor e, c .before .nine-decimals .ensures, le-ltb _ _ passes)
 
 pub ratio-of-spec : {M : Type 1} → statement M
