@@ -8,9 +8,11 @@ sys.dont_write_bytecode = True
 from itertools import zip_longest
 from pathlib import Path
 
+import certificate_cases
 import curve_cases
 import ground
 from cases import CheckFailed
+from certificate import WR, certify, given
 from curve import allows, forward, read, tolerance
 from quantity import Refused, kelvin, quotient_down, ratio
 from reference import BELOW, PAST, PAST_TOP, TOP, inverse, working
@@ -18,6 +20,7 @@ from reference import BELOW, PAST, PAST_TOP, TOP, inverse, working
 MAKERS = {
     "ground": ground.make,
     "curve_cases": curve_cases.make,
+    "certificate_cases": certificate_cases.make,
 }
 
 USAGE = """\
@@ -47,6 +50,36 @@ def about_limit(letter, bath, limit):
     errors = (-limit - 1, -limit, limit, limit + 1)
     return tuple(allows(letter, bath, error) for error in errors)
 
+
+def rounds_to_wr(cell, step):
+    """Whether the working value at the cell's step is its Wr, to 8 decimals."""
+    return quotient_down(working(step) + 500, 1000) * 1000 == WR[cell]
+
+
+# A sensor without deviation: each cell's ratio is its Wr.
+NO_DEVIATION = {
+    "Hg": 844_142_110,
+    "Ga": 1_118_138_890,
+    "In": 1_609_801_850,
+    "Sn": 1_892_797_680,
+    "Zn": 2_568_917_300,
+    "Al": 3_376_008_600,
+    "Ag": 4_286_420_530,
+}
+
+
+def certify_but(name, changed):
+    """What that sensor's record gives with some of its ratios changed."""
+    return certify(name, {**NO_DEVIATION, **changed})
+
+
+def sound(*certificate):
+    """Whether a given certificate is answered as it is."""
+    return given(*certificate) == certificate
+
+
+ZERO_IN = ("in", 0, 0, 0, 0, 0)
+ZERO_AG = ("ag", 0, 0, 0, 0, 3_376_008_600)
 
 # What, due, then the function and its arguments. The numbers due are copied
 # from the scope document or follow from it by hand; none is worked out by the
@@ -118,6 +151,105 @@ SELF_CHECKS = (
     ("2 before 9", "refused 2", tolerance, CLASS_B, 0, 10**12, 10**8),
     ("W under the range", "refused 8", tolerance, CLASS_B, 0, 1, 10**8),
     ("W over the range", "refused 9", tolerance, CLASS_B, 0, 440 * 10**9, 10**11),
+    # Mercury lies below the reference function used here.
+    ("Wr(Ga) at 29.7646 °C", True, rounds_to_wr, "Ga", 297_646),
+    ("Wr(In) at 156.5985 °C", True, rounds_to_wr, "In", 1_565_985),
+    ("Wr(Sn) at 231.928 °C", True, rounds_to_wr, "Sn", 2_319_280),
+    ("Wr(Zn) at 419.527 °C", True, rounds_to_wr, "Zn", 4_195_270),
+    ("Wr(Al) at 660.323 °C", True, rounds_to_wr, "Al", 6_603_230),
+    ("Wr(Ag) at 961.78 °C", True, rounds_to_wr, "Ag", 9_617_800),
+    (
+        "card 5: W(Ga) = 1.11807",
+        ("ga", -58_346_744, 0, 0, 0, 0),
+        certify,
+        "ga",
+        {"Ga": 1_118_070_000},
+    ),
+    ("card 5: one unit less", "refused 6", certify, "ga", {"Ga": 1_118_069_999}),
+    (
+        "card 6: W(In) = 1.60970185",
+        ("in", -16_401_460, 0, 0, 0, 0),
+        certify,
+        "in",
+        {"Ga": 1_118_138_890, "In": 1_609_701_850},
+    ),
+    ("card 6 without Ga", "refused 5", certify, "in", {"In": 1_609_701_850}),
+    ("no deviation, in", ZERO_IN, certify_but, "in", {}),
+    ("no deviation, ag", ZERO_AG, certify_but, "ag", {}),
+    # q2 = -112.007, b = -113/0.283, b x1 = -400 * 0.6098, each rounded downward.
+    (
+        "sn, tin a unit low",
+        ("sn", 244, -400, 0, 0, 0),
+        certify_but,
+        "sn",
+        {"Sn": 1_892_797_679},
+    ),
+    # q3 = -42.1, r23 = -43/0.807, c = -54/1.483, b = -(-37 * 2.4617), b x1 =
+    # 92 * 0.8928, c x1 = -37 * 0.8928, and that times x1 -34 * 0.8928.
+    (
+        "al, aluminium a unit low",
+        ("al", -51, 92, -37, 0, 0),
+        certify_but,
+        "al",
+        {"Al": 3_376_008_599},
+    ),
+    # At silver -37 * 3.2864, -30 * 3.2864 and -150 * 3.2864 leave e = 493; d is
+    # 493/0.9104, then 541/0.9104.
+    (
+        "ag, aluminium a unit low",
+        ("ag", -51, 92, -37, 594, 3_376_008_599),
+        certify_but,
+        "ag",
+        {"Al": 3_376_008_599},
+    ),
+    # 100/0.9104, then 109/0.9104; one quotient by z^2 would give 120.
+    (
+        "ag, silver a unit high",
+        ("ag", 0, 0, 0, 119, 3_376_008_600),
+        certify_but,
+        "ag",
+        {"Ag": 4_286_420_531},
+    ),
+    ("3 before 2", "refused 3", certify, "curve", {"Ga": 4_400_000_001}),
+    ("2 before 4", "refused 2", certify, "ga", {"Hg": 4_400_000_001}),
+    ("4.4 exactly in a cell", "refused 7", certify_but, "ga", {"Ag": 4_400_000_000}),
+    ("4 before 5", "refused 4", certify, "in", {}),
+    ("5 before 6", "refused 5", certify_but, "ag", {"Ga": 0, "Hg": 0, "Ag": 1}),
+    ("6 before 7", "refused 6", certify, "in", {"Ga": 1_118_069_999, "In": 1}),
+    ("W = 1 in a cell", "refused 7", certify_but, "in", {"In": 1_000_000_000}),
+    ("Hg alone pure", ZERO_IN, certify_but, "in", {"Ga": 0, "Hg": 844_235_000}),
+    ("one unit more", "refused 6", certify_but, "in", {"Ga": 0, "Hg": 844_235_001}),
+    ("Hg pure, Ga not", ZERO_IN, certify_but, "in", {"Ga": 1_118_069_999}),
+    ("Ag not pure", "refused 6", certify_but, "ag", {"Ag": 4_284_399_999}),
+    ("Ag pure, d over 0.001", "refused 7", certify_but, "ag", {"Ag": 4_284_400_000}),
+    ("Ag not pure, not used", ZERO_IN, certify_but, "in", {"Ag": 4_284_399_999}),
+    # The deviation limit counts for cells without use too. For mercury it runs
+    # from 843 986 096.1 to 844 297 812.2, for aluminium from 3 373 634 965.03
+    # to 3 378 386 986.99.
+    ("Hg over its lower limit", ZERO_IN, certify_but, "in", {"Hg": 843_986_097}),
+    ("Hg under it", "refused 7", certify_but, "in", {"Hg": 843_986_096}),
+    ("Hg under its upper limit", ZERO_IN, certify_but, "in", {"Hg": 844_297_812}),
+    ("Hg over it", "refused 7", certify_but, "in", {"Hg": 844_297_813}),
+    ("W(Al) over its lower limit", True, sound, "ag", 0, 0, 0, 0, 3_373_634_966),
+    ("W(Al) under it", "refused 7", sound, "ag", 0, 0, 0, 0, 3_373_634_965),
+    ("W(Al) under its upper limit", True, sound, "ag", 0, 0, 0, 0, 3_378_386_986),
+    ("W(Al) over it", "refused 7", sound, "ag", 0, 0, 0, 0, 3_378_386_987),
+    ("W(Al) not given", "refused 7", sound, "ag", 0, 0, 0, 0, 0),
+    ("card 5 as given", True, sound, "ga", -58_346_744, 0, 0, 0, 0),
+    ("card 6 as given", True, sound, "in", -16_401_460, 0, 0, 0, 0),
+    ("a = 0.001", True, sound, "ga", 100_000_000, 0, 0, 0, 0),
+    ("a over it", "refused 7", sound, "ga", 100_000_001, 0, 0, 0, 0),
+    ("a = -0.001", True, sound, "ga", -100_000_000, 0, 0, 0, 0),
+    ("a under it", "refused 7", sound, "ga", -100_000_001, 0, 0, 0, 0),
+    ("curve", True, sound, "curve", 0, 0, 0, 0, 0),
+    ("curve, a not 0", "refused 7", sound, "curve", 1, 0, 0, 0, 0),
+    ("in, b not 0", "refused 7", sound, "in", 0, 1, 0, 0, 0),
+    ("zn, b used", True, sound, "zn", 0, 1, 0, 0, 0),
+    ("zn, c not 0", "refused 7", sound, "zn", 0, 0, 1, 0, 0),
+    ("al, c used", True, sound, "al", 0, 0, 1, 0, 0),
+    ("al, d not 0", "refused 7", sound, "al", 0, 0, 0, 1, 0),
+    ("al, W(Al) not 0", "refused 7", sound, "al", 0, 0, 0, 0, 3_376_008_600),
+    ("3 before 7", "refused 3", sound, "pt", 100_000_001, 0, 0, 0, 0),
 )
 
 

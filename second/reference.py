@@ -22,14 +22,15 @@ PRINTED = (
 )
 
 
-def _units(printed):
+def units(printed):
+    """A value as printed, spaces between its digits, in whole units."""
     value = Fraction(printed.replace(" ", "")) * UNITS_ONE
     if value.denominator != 1:
         raise ValueError(f"{printed} is no whole number of units")
     return value.numerator
 
 
-COEFFICIENTS = tuple(_units(printed) for printed in PRINTED)
+COEFFICIENTS = tuple(units(printed) for printed in PRINTED)
 
 CENTRE = 4_810_000  # 481 °C, both the middle and the half-width of x
 

@@ -12,10 +12,10 @@ pub struct Written {
 }
 
 // Room for a case's line.
-pub fn empty_line() -> [u8; 120]
-    ensures { λ r. ⌜ length r ≡ 120 ⌝ }
+pub fn empty_line() -> [u8; 240]
+    ensures { λ r. ⌜ length r ≡ 240 ⌝ }
 {
-    [0; 120]
+    [0; 240]
 }
 
 // How far a family of cases has come, and the digest of its block.

@@ -1,10 +1,12 @@
 -- How large a working value gets, from bounds of its coefficients and of n.
 use mathlib.Core.List.{List, [], _∷_}
-use Prim.Native.Nat.{ℕ, _+_, _*_, _/_, _<_, _≤_}
+use Prim.Native.Nat.{ℕ, _+_, _*_, _/_, _<_, _≤_, _^_}
 use native.Mathlib.Omega.{arith}
-use lib.IntN.{ℤ, natAbs, _*ℤ_}
+use lib.IntN.{ℤ, natAbs, _+ℤ_, _*ℤ_}
+use mir.Syntax.{w64}
+use mir.Val.{SFits}
 use Rattle.whole.specs.Floor.{floor}
-use Rattle.whole.proofs.Size.{abs-add, abs-product}
+use Rattle.whole.proofs.Size.{abs-add, abs-product, abs→fits}
 use Rattle.whole.proofs.Rounding.{abs-floor}
 use Rattle.polynomial.specs.Polynomial.{rounded}
 
@@ -34,3 +36,12 @@ module _ (unit R : ℕ) (u : 0 < unit) (n : ℤ) (b : natAbs n ≤ R) where
       let v = rounded unit n c′ cs in
       let p = abs-product v n (size unit R l ls) R (abs-rounded c′ l g w) b in
       omega (arith, abs-add (floor (v *ℤ n) unit) c, abs-floor (v *ℤ n) unit (size unit R l ls * R) u p)
+
+  -- one turn: what it gives, and that it has room in 64 bits
+  pub turn-size : (v c : ℤ) (B k : ℕ) → natAbs v ≤ B → natAbs c ≤ k → natAbs (floor (v *ℤ n) unit +ℤ c) ≤ B * R / unit + 1 + k
+  turn-size v c B k p q =
+      omega (arith, abs-add (floor (v *ℤ n) unit) c, abs-floor (v *ℤ n) unit (B * R) u (abs-product v n B R p b))
+
+  pub turn-room : (v c : ℤ) (B k : ℕ) → natAbs v ≤ B → natAbs c ≤ k → B * R < 2 ^ 63 → B * R / unit + 1 + k < 2 ^ 63 → (0 < unit) × SFits w64 (v *ℤ n) × SFits w64 (floor (v *ℤ n) unit +ℤ c)
+  turn-room v c B k p q h g =
+      (u, abs→fits (v *ℤ n) (omega (arith, abs-product v n B R p b)), abs→fits (floor (v *ℤ n) unit +ℤ c) (omega (arith, turn-size v c B k p q)))

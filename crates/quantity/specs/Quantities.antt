@@ -23,9 +23,13 @@ isReading r = leb 1 r && leb r largestResistance
 abbrev pub isDivisor : ℕ → Bool
 isDivisor r0 = leb leastDivisor r0 && leb r0 largestResistance
 
--- W = R/R0 in units of 10^-9, rounded down.
+-- 1 as a ratio: ratios count in units of 10^-9.
+abbrev pub one : ℕ
+one = 10 ^ 9
+
+-- W = R/R0, rounded down.
 abbrev pub ratioOf : ℕ → ℕ → ℕ
-ratioOf r r0 = r * 10 ^ 9 / r0
+ratioOf r r0 = r * one / r0
 
 -- A ratio is at most 4.4.
 abbrev pub largestRatio : ℕ

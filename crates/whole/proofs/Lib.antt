@@ -1,3 +1,4 @@
+pub mod Any
 pub mod Parts
 pub mod Ring
 pub mod Size

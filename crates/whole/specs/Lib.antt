@@ -1,3 +1,4 @@
+pub mod Any
 pub mod Choice
 pub mod Floor
 pub mod Largest

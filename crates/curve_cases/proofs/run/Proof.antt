@@ -6,7 +6,7 @@ use Rattle.curve_cases.proofs.run.Statement.{statement}
 use Rattle.curve_cases.proofs.run.Tie as tie
 
 abbrev Inv-loop : tie.InvT-loop
-Inv-loop family name seed cases line₀ g₀ report₀ i₀ line g report i = (i ≤ cases) × (length line ≡ 120)
+Inv-loop family name seed cases line₀ g₀ report₀ i₀ line g report i = (i ≤ cases) × (length line ≡ 240)
 
 abbrev μ-loop : tie.MeasureT-loop
 μ-loop family name seed cases line₀ g₀ report₀ i₀ line g report i = cases - i

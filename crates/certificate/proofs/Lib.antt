@@ -1,0 +1,4 @@
+pub mod Records
+pub mod Made
+pub mod Unique
+pub mod Values

@@ -1,0 +1,52 @@
+use borrow.Author.Needs.{needs}
+use mathlib.Core.Bool.{Bool, _&&_, not}
+use mathlib.Core.List.{[], _∷_}
+use Rattle.whole.proofs.Any.{from-left}
+use Rattle.scale.specs.declared.cell.Cell.{Cell}
+use Rattle.scale.specs.declared.cell.Cell.the-variants.{Hg, Ga, In, Sn, Zn, Al, Ag}
+use Rattle.scale.specs.Deviation.{within}
+use Rattle.certificate.specs.Record.{ratio, measured, deviates}
+use Rattle.certificate.proofs.record.Record.deviates.Statement.{statement}
+use Rattle.certificate.proofs.record.Record.deviates.Tie as tie
+
+cell-deviates-requires : tie.Need-cell-deviates-requires
+cell-deviates-requires c κs = search needs
+
+cell-deviates-requires-2 : tie.Need-cell-deviates-requires-2
+cell-deviates-requires-2 c κs = search needs
+
+cell-deviates-requires-3 : tie.Need-cell-deviates-requires-3
+cell-deviates-requires-3 c κs = search needs
+
+cell-deviates-requires-4 : tie.Need-cell-deviates-requires-4
+cell-deviates-requires-4 c κs = search needs
+
+cell-deviates-requires-5 : tie.Need-cell-deviates-requires-5
+cell-deviates-requires-5 c κs = search needs
+
+cell-deviates-requires-6 : tie.Need-cell-deviates-requires-6
+cell-deviates-requires-6 c κs = search needs
+
+cell-deviates-requires-7 : tie.Need-cell-deviates-requires-7
+cell-deviates-requires-7 c κs = search needs
+
+returns : tie.Need-returns
+unfolding deviates
+returns c =
+    let ratios = c .before .before .before .before .before .before .before .args .self in
+    let far : Cell → Bool = λ (p : Cell). measured ratios p && not (within p (ratio ratios p)) in
+    rw (c .before .before .before .before .before .before .cell-deviates .ensures, c .before .before .before .before .before .cell-deviates2 .ensures, c .before .before .before .before .cell-deviates3 .ensures, c .before .before .before .cell-deviates4 .ensures, c .before .before .cell-deviates5 .ensures, c .before .cell-deviates6 .ensures, c .cell-deviates7 .ensures)
+    (from-left (far Hg) (far Ga ∷ far In ∷ far Sn ∷ far Zn ∷ far Al ∷ far Ag ∷ []))
+
+pub deviates-spec : {M : Type 1} → statement M
+deviates-spec =
+    tie.close
+    (tie.spec
+    cell-deviates-requires
+    cell-deviates-requires-2
+    cell-deviates-requires-3
+    cell-deviates-requires-4
+    cell-deviates-requires-5
+    cell-deviates-requires-6
+    cell-deviates-requires-7
+    returns)

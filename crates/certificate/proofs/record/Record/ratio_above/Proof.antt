@@ -1,0 +1,52 @@
+use borrow.Author.Needs.{needs}
+use mathlib.Core.Bool.{Bool}
+use mathlib.Core.List.{[], _∷_}
+use lib.Dec.{ltb}
+use Rattle.whole.proofs.Any.{from-left}
+use Rattle.quantity.specs.Quantities.{largestRatio}
+use Rattle.scale.specs.declared.cell.Cell.{Cell}
+use Rattle.scale.specs.declared.cell.Cell.the-variants.{Hg, Ga, In, Sn, Zn, Al, Ag}
+use Rattle.certificate.specs.Record.{ratio, ratioAbove}
+use Rattle.certificate.proofs.record.Record.ratio_above.Statement.{statement}
+use Rattle.certificate.proofs.record.Record.ratio_above.Tie as tie
+
+above-requires : tie.Need-above-requires
+above-requires c κs = search needs
+
+above-requires-2 : tie.Need-above-requires-2
+above-requires-2 c κs = search needs
+
+above-requires-3 : tie.Need-above-requires-3
+above-requires-3 c κs = search needs
+
+above-requires-4 : tie.Need-above-requires-4
+above-requires-4 c κs = search needs
+
+above-requires-5 : tie.Need-above-requires-5
+above-requires-5 c κs = search needs
+
+above-requires-6 : tie.Need-above-requires-6
+above-requires-6 c κs = search needs
+
+above-requires-7 : tie.Need-above-requires-7
+above-requires-7 c κs = search needs
+
+returns : tie.Need-returns
+unfolding ratioAbove
+returns c =
+    let above : Cell → Bool = λ (p : Cell). ltb largestRatio (ratio (c .before .before .before .before .before .before .before .args .self) p) in
+    rw (c .before .before .before .before .before .before .above .ensures, c .before .before .before .before .before .above2 .ensures, c .before .before .before .before .above3 .ensures, c .before .before .before .above4 .ensures, c .before .before .above5 .ensures, c .before .above6 .ensures, c .above7 .ensures)
+    (from-left (above Hg) (above Ga ∷ above In ∷ above Sn ∷ above Zn ∷ above Al ∷ above Ag ∷ []))
+
+pub ratio-above-spec : {M : Type 1} → statement M
+ratio-above-spec =
+    tie.close
+    (tie.spec
+    above-requires
+    above-requires-2
+    above-requires-3
+    above-requires-4
+    above-requires-5
+    above-requires-6
+    above-requires-7
+    returns)

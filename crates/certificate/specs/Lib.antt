@@ -1,0 +1,3 @@
+pub mod Certificate
+pub mod Record
+pub mod Promised

@@ -1,0 +1,35 @@
+-- Names: those of the scale's laws are those of its subranges, and each names its own.
+use mathlib.Core.Path.{_≡_, refl, ap}
+use mathlib.Core.Bool.{Bool, true, false}
+use mathlib.Core.List.{List, [], _∷_, map}
+use mathlib.Core.Option.{Option, none, some}
+use Prim.Native.Nat.{ℕ}
+use lib.Dec.{eqb}
+use Rattle.whole.specs.Choice.{if_then_else_}
+use Rattle.scale.specs.declared.subrange.Subrange.{Subrange}
+use Rattle.scale.specs.declared.subrange.Subrange.the-variants.{Ga, In, Sn, Zn, Al, Ag}
+use Rattle.scale.specs.declared.law.Law.{Law}
+use Rattle.scale.specs.declared.law.Law.the-variants.{Curve, Scale}
+use Rattle.scale.specs.Subranges.{carried, firstNamed, lawName, lawNamed}
+use Rattle.scale.specs.Promised.{NamesLaw}
+
+abbrev pub scaleIf : Option Subrange → Option Law
+scaleIf none = none
+scaleIf (some s) = some (Scale s)
+
+pub scale-named : (n : ℕ) (ss : List Subrange) → firstNamed lawName n (map Scale ss) ≡ scaleIf (firstNamed (λ (s : Subrange). carried s .name) n ss)
+scale-named n [] = refl
+scale-named n (s ∷ ss) = by (eqb n (carried s .name)) (scale-named n ss)
+  where
+    by : (b : Bool) → firstNamed lawName n (map Scale ss) ≡ scaleIf (firstNamed (λ (s : Subrange). carried s .name) n ss) → (if b then some (Scale s) else firstNamed lawName n (map Scale ss)) ≡ scaleIf (if b then some s else firstNamed (λ (s : Subrange). carried s .name) n ss)
+    by true e = refl
+    by false e = e
+
+pub names-law : NamesLaw
+names-law Curve = refl
+names-law (Scale Ga) = refl
+names-law (Scale In) = refl
+names-law (Scale Sn) = refl
+names-law (Scale Zn) = refl
+names-law (Scale Al) = refl
+names-law (Scale Ag) = refl
