@@ -254,9 +254,12 @@ def wal_for(generator):
     return big
 
 
-def given_for(generator):
-    """The name as shown on the line, the name asked for, and the five places."""
-    law = generator.under(8)
+def given_for(generator, laws):
+    """The name as shown on the line, the name asked for, and the five places.
+
+    A law is drawn of so many, those past the known ones having no name.
+    """
+    law = generator.under(laws)
     far = generator.under(4000000000000000000)
     places = [coefficient_for(generator) for _ in "abcd"]
     places.append(wal_for(generator))
@@ -286,7 +289,7 @@ def given_family(seed):
     seen = Counter()
 
     def case(generator, i):
-        shown, name, places = given_for(generator)
+        shown, name, places = given_for(generator, 8)
         return shown, *places, *given_outcome(name, places, seen)
 
     made = family("given", seed, 6000, case)

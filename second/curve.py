@@ -87,7 +87,7 @@ def read(w):
     return low
 
 
-def _in_range(step, first, last):
+def in_range(step, first, last):
     """Nothing where the step lies from first to last, else Refused 8 or 9."""
     if step < first:
         raise Refused(8)
@@ -97,7 +97,7 @@ def _in_range(step, first, last):
 
 def forward(step):
     """The exact ratio rounded downward to W, or Refused 8 or 9."""
-    _in_range(step, FIRST, LAST)
+    in_range(step, FIRST, LAST)
     units = exact_ratio(step) * RATIO_ONE
     return quotient_down(units.numerator, units.denominator)
 
@@ -128,6 +128,6 @@ def tolerance(letter, bath, r, r0):
     if letter not in CLASSES:
         raise Refused(3)
     first, last, _, _ = CLASSES[letter]
-    _in_range(bath, first, last)
+    in_range(bath, first, last)
     error = read(ratio(r, r0)) - bath
     return allows(letter, bath, error), error

@@ -11,16 +11,20 @@ from pathlib import Path
 import certificate_cases
 import curve_cases
 import ground
+import reading
+import reading_cases
 from cases import CheckFailed
 from certificate import WR, certify, given
 from curve import allows, forward, read, tolerance
 from quantity import Refused, kelvin, quotient_down, ratio
+from reading import deviation_at
 from reference import BELOW, PAST, PAST_TOP, TOP, inverse, working
 
 MAKERS = {
     "ground": ground.make,
     "curve_cases": curve_cases.make,
     "certificate_cases": certificate_cases.make,
+    "reading_cases": reading_cases.make,
 }
 
 USAGE = """\
@@ -78,8 +82,49 @@ def sound(*certificate):
     return given(*certificate) == certificate
 
 
+W_AL = 3_376_008_600  # aluminium without deviation
+
+ZERO_GA = ("ga", 0, 0, 0, 0, 0)
 ZERO_IN = ("in", 0, 0, 0, 0, 0)
-ZERO_AG = ("ag", 0, 0, 0, 0, 3_376_008_600)
+ZERO_AG = ("ag", 0, 0, 0, 0, W_AL)
+ZERO_CURVE = ("curve", 0, 0, 0, 0, 0)
+
+# Certificates at the limit of their coefficients.
+FULL_AL = ("al", 10**8, 10**8, 10**8, 0, 0)
+FULL_D = ("ag", 0, 0, 0, 10**8, W_AL)
+
+
+def read_ratio(certificate, w):
+    """What reading the ratio gives, its divisor 25 ohm."""
+    return reading.read(*certificate, w * 25, 25 * 10**9)
+
+
+def alike(certificate, w, wr):
+    """Whether `w` reads as `wr` does where there is no deviation."""
+    plain = (certificate[0], 0, 0, 0, 0, certificate[5])
+    return read_ratio(certificate, w) == read_ratio(plain, wr)
+
+
+def about_top(name):
+    """What a certificate without deviation gives about its subrange's top.
+
+    The working value at the top is Wr to 8 decimals, so a reading 5 units of
+    10^-9 over Wr is at the top and 6 units under it is not; a step is 280 to
+    400 units, so 500 over Wr is past it.
+    """
+    cell = name.capitalize()
+    plain = (name, 0, 0, 0, 0, W_AL if name == "ag" else 0)
+    shifts = (-6, 5, 500)
+    return [outcome(read_ratio, (plain, NO_DEVIATION[cell] + n)) for n in shifts]
+
+def past_top_of_ga(short):
+    """What a reading by ga gives whose Wr is the working value one step past the
+    top less `short` units, made so by the least a that does it."""
+    wr = working(297_647) - short
+    w = -(-wr // 100)
+    a = -((wr - 100 * w) * 10**9 // (w - 10**9))
+    return read_ratio(("ga", a, 0, 0, 0, 0), w)
+
 
 # What, due, then the function and its arguments. The numbers due are copied
 # from the scope document or follow from it by hand; none is worked out by the
@@ -250,6 +295,115 @@ SELF_CHECKS = (
     ("al, d not 0", "refused 7", sound, "al", 0, 0, 0, 1, 0),
     ("al, W(Al) not 0", "refused 7", sound, "al", 0, 0, 0, 0, 3_376_008_600),
     ("3 before 7", "refused 3", sound, "pt", 100_000_001, 0, 0, 0, 0),
+    ("card 3: W = 2.78157254", ("ag", 4_810_000), read_ratio, ZERO_AG, 2_781_572_540),
+    ("card 3: one unit less", ("ag", 4_809_999), read_ratio, ZERO_AG, 2_781_572_539),
+    ("card 4: W = 0.99996011", ("ag", 0), read_ratio, ZERO_AG, 999_960_110),
+    ("card 4: one unit less", "refused 8", read_ratio, ZERO_AG, 999_960_109),
+    ("card 9: 4.4 exactly by ag", "refused 9", read_ratio, ZERO_AG, 4_400_000_000),
+    ("card 9: one unit more", "refused 2", read_ratio, ZERO_AG, 4_400_000_001),
+    ("card 9: 4.4 exactly by ga", "refused 9", read_ratio, ZERO_GA, 4_400_000_000),
+    ("card 9: one unit more", "refused 2", read_ratio, ZERO_GA, 4_400_000_001),
+    (
+        "list, F1",
+        ("curve", 1_000_000),
+        reading.read,
+        *ZERO_CURVE,
+        138_505_500_000,
+        100_000_000_000,
+    ),
+    (
+        "list, F2",
+        ("ag", 4_810_000),
+        reading.read,
+        *("ag", 0, 0, 0, 0, 3_376_008_600),
+        69_539_313_500,
+        25_000_000_000,
+    ),
+    (
+        "list, F3",
+        "refused 9",
+        reading.read,
+        *("zn", 0, 0, 0, 0, 0),
+        69_539_313_500,
+        25_000_000_000,
+    ),
+    # Card 7 by this call.
+    ("curve, -200 °C", ("curve", -2_000_000), read_ratio, ZERO_CURVE, 185_200_800),
+    ("curve, one unit less", "refused 8", read_ratio, ZERO_CURVE, 185_200_799),
+    ("top of ga", [("ga", 297_645), ("ga", 297_646), "refused 9"], about_top, "ga"),
+    ("top of in", [("in", 1_565_984), ("in", 1_565_985), "refused 9"], about_top, "in"),
+    ("top of sn", [("sn", 2_319_279), ("sn", 2_319_280), "refused 9"], about_top, "sn"),
+    ("top of zn", [("zn", 4_195_269), ("zn", 4_195_270), "refused 9"], about_top, "zn"),
+    ("top of al", [("al", 6_603_229), ("al", 6_603_230), "refused 9"], about_top, "al"),
+    ("top of ag", [("ag", 9_617_799), ("ag", 9_617_800), "refused 9"], about_top, "ag"),
+    ("Wr at the value past the top", "refused 9", past_top_of_ga, 0),
+    ("one unit less", ("ga", 297_646), past_top_of_ga, 1),
+    # By definition the water triple point, 0.01 °C, whatever the deviation.
+    ("W = 1", ("al", 100), read_ratio, FULL_AL, 1_000_000_000),
+    # 0.001 times 1 + 1 + 1, 2 + 4 + 8, and -1 + 1 - 1.
+    ("deviation, W = 2", 300_000_000, deviation_at, FULL_AL, 2 * 10**9),
+    ("deviation, W = 3", 1_400_000_000, deviation_at, FULL_AL, 3 * 10**9),
+    ("deviation, W = 0", -100_000_000, deviation_at, FULL_AL, 0),
+    ("W = 2 as 1.997", True, alike, FULL_AL, 2 * 10**9, 1_997_000_000),
+    ("W = 3 as 2.986", True, alike, FULL_AL, 3 * 10**9, 2_986_000_000),
+    # 1 times 0.000 000 001 either way, then 1 times 1.9, twice and three times.
+    ("deviation just under 0", -1, deviation_at, ("ga", 1, 0, 0, 0, 0), 999_999_999),
+    ("deviation just over 0", 0, deviation_at, ("ga", 1, 0, 0, 0, 0), 1_000_000_001),
+    ("two products", 1, deviation_at, ("zn", 0, 1, 0, 0, 0), 2_900_000_000),
+    ("three products", 1, deviation_at, ("al", 0, 0, 1, 0, 0), 2_900_000_000),
+    # 0.001 times 0.25 half a unit above W(Al), and no d term below it.
+    ("d above W(Al)", 25_000_000, deviation_at, FULL_D, W_AL + 5 * 10**8),
+    ("d at W(Al)", 0, deviation_at, FULL_D, W_AL),
+    ("d below W(Al)", 0, deviation_at, FULL_D, W_AL - 5 * 10**8),
+    # 3 times 0.9 rounded, that times 0.9; times 0.81 it would be 2.
+    ("d, two products", 1, deviation_at, ("ag", 0, 0, 0, 3, W_AL), W_AL + 9 * 10**8),
+    ("d a unit above W(Al)", -1, deviation_at, ("ag", 0, 0, 0, -1, W_AL), W_AL + 1),
+    ("d at W(Al), downward", 0, deviation_at, ("ag", 0, 0, 0, -1, W_AL), W_AL),
+    ("d a unit below W(Al)", 0, deviation_at, ("ag", 0, 0, 0, -1, W_AL), W_AL - 1),
+    (
+        "W = 3.8760086 as 3.8757586, for d",
+        True,
+        alike,
+        FULL_D,
+        3_876_008_600,
+        3_875_758_600,
+    ),
+    (
+        "W = 2.8760086 as itself, without d",
+        True,
+        alike,
+        FULL_D,
+        2_876_008_600,
+        2_876_008_600,
+    ),
+    ("card 3 by d", ("ag", 4_810_000), read_ratio, FULL_D, 2_781_572_540),
+    ("W(Al) by d", True, alike, FULL_D, W_AL, W_AL),
+    ("one unit less", True, alike, FULL_D, W_AL - 1, W_AL - 1),
+    ("reading, 3 before 7", "refused 3", reading.read, "pt", 10**9, 0, 0, 0, 0, 0, 0),
+    ("reading, 7 before 1", "refused 7", reading.read, "ga", 10**9, 0, 0, 0, 0, 0, 0),
+    ("curve, 7 before 1", "refused 7", reading.read, "curve", 0, 0, 0, 0, 1, 0, 0),
+    ("reading, 1 before 2", "refused 1", reading.read, *ZERO_GA, 10**12 + 1, 10**8),
+    ("reading, 2 before 9", "refused 2", reading.read, *ZERO_GA, 10**12, 10**8),
+    ("forward, 0 °C", ("ag", 999_960_110), reading.forward, *ZERO_AG, 0),
+    ("forward, 481 °C", ("ag", 2_781_572_540), reading.forward, *ZERO_AG, 4_810_000),
+    ("forward, 0 °C by the curve", ("curve", 10**9), reading.forward, *ZERO_CURVE, 0),
+    ("forward, 3 before 7", "refused 3", reading.forward, "pt", 10**9, 0, 0, 0, 0, 0),
+    ("forward, 7 before 8", "refused 7", reading.forward, "ga", 10**9, 0, 0, 0, 0, -1),
+    ("forward, under 0 °C", "refused 8", reading.forward, *ZERO_GA, -1),
+    ("forward, over the top of ga", "refused 9", reading.forward, *ZERO_GA, 297_647),
+    ("forward, over that of ag", "refused 9", reading.forward, *ZERO_AG, 9_617_801),
+    ("curve, under -200 °C", "refused 8", reading.forward, *ZERO_CURVE, -2_000_001),
+    ("curve, over 850 °C", "refused 9", reading.forward, *ZERO_CURVE, 8_500_001),
+    (
+        "class A by the curve",
+        ("curve", True, 1_500),
+        reading.tolerance,
+        CLASS_A,
+        0,
+        100_058_662_299,
+        10**11,
+    ),
+    ("no class", "refused 3", reading.tolerance, ord("C"), 0, 10**11, 10**11),
 )
 
 

@@ -1,4 +1,5 @@
 pub mod Records
 pub mod Made
+pub mod Answers
 pub mod Unique
 pub mod Values

@@ -49,13 +49,18 @@ abbrev pub stated : CertificateAnswer → Outcome
 stated (answer.Certificate k) = answered k
 stated (answer.Refused why) = refused (numberOf why)
 
--- A given certificate, its law named. 3: no law has the name; 7: it is not sound; else the certificate.
-abbrev pub givenFor : Option Law → ℤ → ℤ → ℤ → ℤ → ℕ → Outcome
-givenFor none a b c d wal = refused 3
-givenFor (some law) a b c d wal =
-    let k : Certificate = record { law = law; a = a; b = b; c = c; d = d; wal = record { 0 = wal } } in
-    if not (sound k) then refused 7
-    else answered k
+-- The places of a certificate with their law.
+abbrev pub certificateOf : Law → ℤ → ℤ → ℤ → ℤ → ℕ → Certificate
+certificateOf law a b c d wal = record { law = law; a = a; b = b; c = c; d = d; wal = record { 0 = wal } }
 
+-- What follows from a given certificate, its law named. 3: no law has the name; 7: it is not sound; else what is said of the certificate.
+abbrev pub givenThen {ℓ} : {A : Type ℓ} → (ℕ → A) → (Certificate → A) → Option Law → ℤ → ℤ → ℤ → ℤ → ℕ → A
+givenThen refuse certify none a b c d wal = refuse 3
+givenThen refuse certify (some law) a b c d wal =
+    let k = certificateOf law a b c d wal in
+    if not (sound k) then refuse 7
+    else certify k
+
+-- The certificate itself is what is answered.
 abbrev pub givenAnswer : ℕ → ℤ → ℤ → ℤ → ℤ → ℕ → Outcome
-givenAnswer name a b c d wal = givenFor (lawNamed name) a b c d wal
+givenAnswer name a b c d wal = givenThen refused answered (lawNamed name) a b c d wal

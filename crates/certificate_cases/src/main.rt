@@ -6,40 +6,23 @@ ghost use lib.IntN.{natAbs};
 ghost use lib.ListN.{length};
 use certificate::CertificateAnswer;
 use certificate::Record;
+use draws::around;
+use draws::drawn_aluminium;
+use draws::drawn_place;
+use draws::edge;
+use draws::given_name;
+use draws::law_name;
+use draws::law_text;
+use draws::name_text;
+use draws::places_text;
+use draws::reference_of;
 use evidence::Drawn;
 use evidence::Generator;
 use evidence::Report;
 use evidence::Written;
 use quantity::Ratio;
-use scale::Ag;
-use scale::Al;
 use scale::Cell;
-use scale::Ga;
-use scale::In;
-use scale::Law;
 use scale::Name;
-use scale::Sn;
-use scale::Subrange;
-use scale::Zn;
-
-// A signed number and the generator after it.
-struct Signed {
-    generator: Generator,
-    value: i64,
-}
-
-// A number from -size to size.
-fn around(g: Generator, size: u64) -> Signed
-    requires { ⌜ size ≤ 1_000_000_000 ⌝ }
-    ensures { λ r. ⌜ natAbs (r .value) ≤ size ⌝ }
-{
-    let drawn = g.under(2 * size + 1);
-    let g1 = drawn.generator;
-    Signed {
-        generator: g1,
-        value: whole::difference(whole::signed(drawn.value), whole::signed(size)),
-    }
-}
 
 // ---- cells, in the order of the scope document's table
 
@@ -55,13 +38,6 @@ fn cell_at(i: u64) -> Cell {
     }
 }
 
-// Wr in units of 10^-11.
-fn reference_of(cell: Cell) -> u64
-    ensures { λ r. ⌜ (84_414_211_000 ≤ r) × (r ≤ 428_642_053_000) ⌝ }
-{
-    cell.reference()
-}
-
 // The ratio of a cell in a thermometer whose deviation is so many 10^-11 of x.
 fn tilted(cell: Cell, tilt: i64) -> u64
     requires { ⌜ natAbs tilt ≤ 100_000_000 ⌝ }
@@ -70,17 +46,6 @@ fn tilted(cell: Cell, tilt: i64) -> u64
     let x = whole::difference(base, 1_000_000_000);
     let deviation = whole::floor_by(whole::product(tilt, x), 100_000_000_000);
     whole::natural(whole::sum(base, deviation))
-}
-
-// A ratio at which the deviation is about at its limit: on one side, or on the other.
-fn edge(cell: Cell, side: u64) -> u64
-    ensures { λ r. ⌜ (1 ≤ r) × (r ≤ 2 ^ 40) ⌝ }
-{
-    let tenfold = 10 * reference_of(cell);
-    if side == 0 {
-        return (tenfold - 1_000_000_000) / 999;
-    }
-    (tenfold + 1_000_000_000) / 1001
 }
 
 // ---- records
@@ -238,32 +203,6 @@ fn record_of(name: u64, w: [u64; 7]) -> Record {
 
 // ---- lines
 
-fn subrange_text(line: &mut [u8], from: usize, subrange: Subrange) -> usize {
-    match subrange {
-        Subrange::Ga => evidence::text(line, from, b" ga"),
-        Subrange::In => evidence::text(line, from, b" in"),
-        Subrange::Sn => evidence::text(line, from, b" sn"),
-        Subrange::Zn => evidence::text(line, from, b" zn"),
-        Subrange::Al => evidence::text(line, from, b" al"),
-        Subrange::Ag => evidence::text(line, from, b" ag"),
-    }
-}
-
-fn law_text(line: &mut [u8], from: usize, law: Law) -> usize {
-    match law {
-        Law::Curve => evidence::text(line, from, b" curve"),
-        Law::Scale(subrange) => subrange_text(line, from, subrange),
-    }
-}
-
-fn places_text(line: &mut [u8], from: usize, a: i64, b: i64, c: i64, d: i64, wal: u64) -> usize {
-    let mut at = evidence::signed(line, from, a);
-    at = evidence::signed(line, at, b);
-    at = evidence::signed(line, at, c);
-    at = evidence::signed(line, at, d);
-    evidence::natural(line, at, wal)
-}
-
 fn answer_text(line: &mut [u8], from: usize, answer: CertificateAnswer) -> usize {
     match answer {
         CertificateAnswer::Certificate(k) => {
@@ -295,23 +234,6 @@ fn record_text(line: &mut [u8], from: usize, name: u64, w: [u64; 7]) -> usize {
 }
 
 // ---- the families
-
-// "curve"
-const CURVE: u64 = 0x63_7572_7665;
-
-fn law_name(law: u64) -> u64
-    ensures { λ r. ⌜ (1 ≤ r) × (r ≤ 2 ^ 40) ⌝ }
-{
-    match law {
-        0 => CURVE,
-        1 => Ga::NAME,
-        2 => In::NAME,
-        3 => Sn::NAME,
-        4 => Zn::NAME,
-        5 => Al::NAME,
-        _ => Ag::NAME,
-    }
-}
 
 // A record of a subrange, the subrange's name first.
 fn record_case(law: u64, family: &[u8], g: Generator, line: &mut [u8]) -> Written {
@@ -359,104 +281,6 @@ fn named_case(g: Generator, line: &mut [u8]) -> Written {
         generator: g2,
         len: record_text(line, at, name.value, w),
     }
-}
-
-// A coefficient of a given certificate: often 0, within its limit, at its limit, or any.
-fn drawn_place(g: Generator) -> Signed {
-    let kind = g.under(8);
-    let g1 = kind.generator;
-    let within = around(g1, 100_000_001);
-    let g2 = within.generator;
-    let any = g2.under(4_000_000_000_000_000_000);
-    let g3 = any.generator;
-    if kind.value < 4 {
-        return Signed {
-            generator: g3,
-            value: 0,
-        };
-    }
-    if kind.value < 6 {
-        return Signed {
-            generator: g3,
-            value: within.value,
-        };
-    }
-    if kind.value < 7 {
-        return Signed {
-            generator: g3,
-            value: at_limit(within.value),
-        };
-    }
-    Signed {
-        generator: g3,
-        value: whole::difference(whole::signed(any.value), 2_000_000_000_000_000_000),
-    }
-}
-
-// The limit, the limit below zero, or one more than the limit, by the remainder of v over 3.
-fn at_limit(v: i64) -> i64
-    requires { ⌜ natAbs v ≤ 1_000_000_000 ⌝ }
-{
-    let remainder = whole::natural(whole::sum(v, 3_000_000_000)) % 3;
-    match remainder {
-        0 => 100_000_000,
-        1 => -100_000_000,
-        _ => 100_000_001,
-    }
-}
-
-// W(Al) of a given certificate: often 0, near its place, at its limit, or any.
-fn drawn_aluminium(g: Generator) -> Drawn {
-    let kind = g.under(8);
-    let g1 = kind.generator;
-    let near = around(g1, 2_500_000);
-    let g2 = near.generator;
-    let shift = g2.under(4);
-    let g3 = shift.generator;
-    let any = g3.under(4_000_000_000_000_000_000);
-    let g4 = any.generator;
-    if kind.value < 3 {
-        return Drawn {
-            generator: g4,
-            value: 0,
-        };
-    }
-    if kind.value < 5 {
-        return Drawn {
-            generator: g4,
-            value: whole::natural(whole::sum(near.value, 3_376_008_600)),
-        };
-    }
-    if kind.value < 7 {
-        return Drawn {
-            generator: g4,
-            value: edge(Cell::Al, kind.value - 5) - 1 + shift.value,
-        };
-    }
-    Drawn {
-        generator: g4,
-        value: any.value,
-    }
-}
-
-fn name_text(line: &mut [u8], from: usize, law: u64, far: u64) -> usize {
-    match law {
-        0 => evidence::text(line, from, b" curve"),
-        1 => evidence::text(line, from, b" ga"),
-        2 => evidence::text(line, from, b" in"),
-        3 => evidence::text(line, from, b" sn"),
-        4 => evidence::text(line, from, b" zn"),
-        5 => evidence::text(line, from, b" al"),
-        6 => evidence::text(line, from, b" ag"),
-        _ => evidence::natural(line, from, far),
-    }
-}
-
-fn given_name(law: u64, far: u64) -> u64 {
-    if law < 7 {
-        return law_name(law);
-    }
-    far
 }
 
 fn given_case(g: Generator, line: &mut [u8]) -> Written {

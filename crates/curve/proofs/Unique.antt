@@ -64,7 +64,7 @@ judged-unique class bath r r0 o o′ h k =
     (λ h k. if-both (ltZ (class .top) bath) h k (λ a b. a ∙ sym b)
     (λ l m. l .2 ∙ ap (judged class bath) (read-by-unique r r0 (l .0) (m .0) (l .1) (m .1)) ∙ sym (m .2)))
 
-class-unique : (letter : ℕ) (bath : ℤ) (r r0 : ℕ) (o o′ : tolerance.Outcome) → Judged letter bath r r0 o → Judged letter bath r r0 o′ → o ≡ o′
+pub class-unique : (letter : ℕ) (bath : ℤ) (r r0 : ℕ) (o o′ : tolerance.Outcome) → Judged letter bath r r0 o → Judged letter bath r r0 o′ → o ≡ o′
 class-unique letter bath r r0 o o′ h k =
     if-both (eqb letter 65) h k (judged-unique classA bath r r0 o o′)
     (λ h k. if-both (eqb letter 66) h k (judged-unique classB bath r r0 o o′) (λ a b. a ∙ sym b))

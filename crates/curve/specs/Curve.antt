@@ -36,9 +36,13 @@ quartic n = C .num *ℤ (n -ℤ pos 1_000_000) *ℤ (n *ℤ n *ℤ n)
 unfoldable pub exact : ℤ → ℤ
 exact n = if ltZ n (pos 0) then quadratic n +ℤ quartic n else quadratic n
 
+-- How many of these make a unit of 10^-9.
+abbrev pub perUnit : ℕ
+perUnit = 10 ^ 22
+
 -- A ratio of whole units of 10^-9, in the same units.
 unfoldable pub units : ℕ → ℤ
-units w = pos (w * 10 ^ 22)
+units w = pos (w * perUnit)
 
 -- The curve runs from -200 °C to 850 °C.
 abbrev pub first : ℤ

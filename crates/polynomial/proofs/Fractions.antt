@@ -6,10 +6,10 @@ use native.Mathlib.Nat.{mul-pos, pow-zero, pow-succ', mul-one, one-mul}
 use native.Mathlib.Omega.{arith}
 use lib.ListN.{length}
 use lib.IntN.{ℤ, pos, pow, one, _+ℤ_, _-ℤ_, _*ℤ_, *ℤ-comm, *ℤ-one}
-use lib.Signed.{_<ℤ_}
+use lib.Signed.{_≤ℤ_, _<ℤ_}
 use Rattle.whole.proofs.Parts.{ints, mul-parts}
-use Rattle.whole.proofs.Ring.{*ℤ-assoc, *ℤ-distribˡ, *ℤ-distribʳ, *ℤ-subʳ, *ℤ-swap, *ℤ-cross, *ℤ-strict, *ℤ-cancel-<}
-use Rattle.polynomial.specs.Fraction.{Fraction, integer, _+ᶠ_, _-ᶠ_, _*ᶠ_, _^ᶠ_, _<ᶠ_}
+use Rattle.whole.proofs.Ring.{*ℤ-assoc, *ℤ-distribˡ, *ℤ-distribʳ, *ℤ-subʳ, *ℤ-swap, *ℤ-cross, *ℤ-mono, *ℤ-strict, *ℤ-cancel-≤, *ℤ-cancel-<}
+use Rattle.polynomial.specs.Fraction.{Fraction, integer, _+ᶠ_, _-ᶠ_, _*ᶠ_, _^ᶠ_, _<ᶠ_, _≤ᶠ_}
 use Rattle.polynomial.specs.Polynomial.{terms}
 
 -- p is z / P
@@ -68,6 +68,10 @@ module _ {p q : Fraction} {y z : ℤ} {P : ℕ} (h : Is p y P) (k : Is q z P) wh
   is-< s o =
       record { out = *ℤ-cancel-< (p .num *ℤ pos (q .den)) (q .num *ℤ pos (p .den)) P (rw (left, right) (*ℤ-strict y z (p .den * q .den) (mul-pos (p .positive) (q .positive)) o)) }
 
+  pub is-≤ : 0 < P → y ≤ℤ z → p ≤ᶠ q
+  is-≤ s o =
+      record { out = *ℤ-cancel-≤ (p .num *ℤ pos (q .den)) (q .num *ℤ pos (p .den)) P s (rw (left, right) (*ℤ-mono y z (p .den * q .den) o)) }
+
 -- ---- a polynomial at x = n / unit is a whole number over a power of the unit
 -- the exact value times unit ^ (number of the coefficients after the first)
 unfoldable pub scaled : ℕ → ℤ → ℤ → List ℤ → ℤ
@@ -79,7 +83,7 @@ unfolding _^ᶠ_ pow one
 is-power h zero = rw pow-zero (is-integer (pos 1) 1)
 is-power {n} h (suc i) = rw (pow-succ', *ℤ-comm (pow n i) n) (is-mul h (is-power h i))
 
-is-times : {p : Fraction} {z : ℤ} {P : ℕ} (c : ℤ) → Is p z P → Is (integer c *ᶠ p) (c *ℤ z) P
+pub is-times : {p : Fraction} {z : ℤ} {P : ℕ} (c : ℤ) → Is p z P → Is (integer c *ᶠ p) (c *ℤ z) P
 unfolding _*ᶠ_ integer
 is-times {p} {z} {P} c h = record { same = rw one-mul (cc (*ℤ-assoc c (p .num) (pos P), h .same, *ℤ-assoc c z (pos (p .den)))) }
 

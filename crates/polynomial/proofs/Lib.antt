@@ -3,3 +3,4 @@ pub mod Sizes
 pub mod Rise
 pub mod Loss
 pub mod Loops
+pub mod Orders

@@ -3,7 +3,7 @@ use Prim.Native.Nat.{ℕ, zero, suc, _*_, _^_, _<_}
 use native.Mathlib.Nat.{mul-pos, one-le-pow}
 use native.Mathlib.Omega.{arith}
 use lib.IntN.{ℤ, pos, _+ℤ_, _-ℤ_, _*ℤ_}
-use lib.Signed.{_<ℤ_}
+use lib.Signed.{_≤ℤ_, _<ℤ_}
 
 -- num / den
 pub record Fraction : Type 0 where
@@ -36,10 +36,14 @@ unfoldable pub _^ᶠ_ : Fraction → ℕ → Fraction
 x ^ᶠ zero = integer (pos 1)
 x ^ᶠ (suc i) = x *ᶠ x ^ᶠ i
 
--- The order, multiplied out.
+-- The orders, multiplied out.
 infix 5 _<ᶠ_
 pub record _<ᶠ_ (p q : Fraction) : Type 0 where
   pub out : (p .num *ℤ pos (q .den)) <ℤ (q .num *ℤ pos (p .den))
+
+infix 5 _≤ᶠ_
+pub record _≤ᶠ_ (p q : Fraction) : Type 0 where
+  pub out : (p .num *ℤ pos (q .den)) ≤ℤ (q .num *ℤ pos (p .den))
 
 -- The whole number w lies less than d from the fraction e.
 pub record Within (d : ℕ) (w : ℤ) (e : Fraction) : Type 0 where

@@ -11,7 +11,7 @@ use crate::cell::Cell;
 pub const ONE: u64 = 1_000_000_000;
 
 // A unit of a ratio in units of a deviation.
-const FINE: u64 = 100;
+pub const FINE: u64 = 100;
 
 // A coefficient's largest size, 0.001.
 pub const LARGEST_COEFFICIENT: u64 = 100_000_000;

@@ -6,6 +6,7 @@ mod name;
 mod subrange;
 
 pub use cell::Cell;
+pub use deviation::FINE;
 pub use deviation::LARGEST_COEFFICIENT;
 pub use deviation::ONE;
 pub use deviation::cell_deviation;

@@ -21,6 +21,14 @@ module _ (f : ℤ → ℤ) (first last value : ℤ) where
       by (no h) (yes k) = absurd (not-later b a q p (omega ints))
       by (no h) (no k) = omega ints
 
+-- a larger value has no smaller largest step
+pub largest-mono : (f : ℤ → ℤ) (first last v v′ a b : ℤ) → v ≤ℤ v′ → Largest f first last v a → Largest f first last v′ b → a ≤ℤ b
+largest-mono f first last v v′ a b h p q = by (decLt (up b + dn a) (up a + dn b))
+  where
+    by : Dec (up b + dn a < up a + dn b) → a ≤ℤ b
+    by (yes k) = absurd (omega (ints, h, p .not-above, q .above a (omega ints) (omega (ints, p .to-last, add-parts last (pos 1)))))
+    by (no k) = omega ints
+
 -- of a function that rises from the first step to the one past the last
 module _ (f : ℤ → ℤ) (first last : ℤ) (rise : (s : ℤ) → first ≤ℤ s → s <ℤ (last +ℤ pos 1) → f s <ℤ f (s +ℤ pos 1)) (value : ℤ) where
   pub largest-by-next : (s : ℤ) → first ≤ℤ s → s ≤ℤ last → f s ≤ℤ value → value <ℤ f (s +ℤ pos 1) → Largest f first last value s

@@ -6,7 +6,7 @@ use mir.Facts.{toZ-ofZ}
 use Rattle.scale.specs.declared.law.Law.{Law}
 use Rattle.certificate.specs.declared.certificate.Certificate.{Certificate}
 use Rattle.scale.specs.Subranges.{lawNamed}
-use Rattle.certificate.specs.Certificate.{answered, refused, givenFor, sound}
+use Rattle.certificate.specs.Certificate.{answered, refused, givenThen, sound}
 use Rattle.certificate.proofs.certificate.given.Statement.{statement}
 use Rattle.certificate.proofs.certificate.given.Tie as tie
 
@@ -31,15 +31,15 @@ returns c =
     let k : Certificate = record { law = l .law .given .0 .0; a = a .a; b = a .b; c = a .c; d = a .d; wal = a .wal } in
     let e : some (k .law) ≡ lawNamed (a .name .0) = rw (l .law .given .1) at (l .before .before .named .ensures) in
     let yes : sound k ≡ true = rw (toZ-ofZ (s .fits .a), toZ-ofZ (s .fits .b), toZ-ofZ (s .fits .c), toZ-ofZ (s .fits .d)) at (sym (v .sound .ensures) ∙ c .if1 .taken) in
-    let given : answered k ≡ givenFor (some (k .law)) (a .a) (a .b) (a .c) (a .d) (a .wal .0) = rw yes in
-    rw (toZ-ofZ (s .fits .a), toZ-ofZ (s .fits .b), toZ-ofZ (s .fits .c), toZ-ofZ (s .fits .d)) (given ∙ ap (λ (o : Option Law). givenFor o (a .a) (a .b) (a .c) (a .d) (a .wal .0)) e)
+    let given : answered k ≡ givenThen refused answered (some (k .law)) (a .a) (a .b) (a .c) (a .d) (a .wal .0) = rw yes in
+    rw (toZ-ofZ (s .fits .a), toZ-ofZ (s .fits .b), toZ-ofZ (s .fits .c), toZ-ofZ (s .fits .d)) (given ∙ ap (λ (o : Option Law). givenThen refused answered o (a .a) (a .b) (a .c) (a .d) (a .wal .0)) e)
 
 returns-2 : tie.Need-returns-2
 returns-2 c =
     let n = c .before .before in
     let a = n .before .args in
     let e : none ≡ lawNamed (a .name .0) = rw (c .enum-told .given .1) at (n .named .ensures) in
-    ap (λ (o : Option Law). givenFor o (a .a) (a .b) (a .c) (a .d) (a .wal .0)) e
+    ap (λ (o : Option Law). givenThen refused answered o (a .a) (a .b) (a .c) (a .d) (a .wal .0)) e
 
 returns-3 : tie.Need-returns-3
 returns-3 c =
@@ -50,8 +50,8 @@ returns-3 c =
     let k : Certificate = record { law = l .law .given .0 .0; a = a .a; b = a .b; c = a .c; d = a .d; wal = a .wal } in
     let e : some (k .law) ≡ lawNamed (a .name .0) = rw (l .law .given .1) at (l .before .before .named .ensures) in
     let no : sound k ≡ false = rw (toZ-ofZ (s .fits .a), toZ-ofZ (s .fits .b), toZ-ofZ (s .fits .c), toZ-ofZ (s .fits .d)) at (sym (v .sound .ensures) ∙ c .if1 .left) in
-    let given : refused 7 ≡ givenFor (some (k .law)) (a .a) (a .b) (a .c) (a .d) (a .wal .0) = rw no in
-    given ∙ ap (λ (o : Option Law). givenFor o (a .a) (a .b) (a .c) (a .d) (a .wal .0)) e
+    let given : refused 7 ≡ givenThen refused answered (some (k .law)) (a .a) (a .b) (a .c) (a .d) (a .wal .0) = rw no in
+    given ∙ ap (λ (o : Option Law). givenThen refused answered o (a .a) (a .b) (a .c) (a .d) (a .wal .0)) e
 
 pub given-spec : {M : Type 1} → statement M
 given-spec =

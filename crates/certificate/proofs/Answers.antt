@@ -1,0 +1,51 @@
+-- What an answer to a given certificate says: callers need not open the tests.
+use mathlib.Core.Path.{_≡_, refl, sym, _∙_, ap, subst}
+use mathlib.Core.Bool.{Bool, true, false, not}
+use mathlib.Core.Option.{Option, none, some}
+use Prim.Native.Nat.{ℕ}
+use native.Mathlib.Omega.{arith}
+use lib.IntN.{ℤ}
+use Rattle.whole.specs.Choice.{if_then_else_}
+use Rattle.quantity.specs.declared.refusal.Refusal.{Refusal}
+use Rattle.quantity.specs.Refusals.{numberOf}
+use Rattle.quantity.proofs.Unique.{not-zero}
+use Rattle.scale.specs.declared.law.Law.{Law}
+use Rattle.certificate.specs.declared.certificate.Certificate.{Certificate}
+use Rattle.certificate.specs.Certificate.{certificateOf, Outcome, refused, answered, sound, givenThen}
+use Rattle.certificate.proofs.Made.{answered-unique, not-refused}
+
+module _ (Refused : ℕ → Type 0) (Then : Certificate → Type 0) (a b c d : ℤ) (wal : ℕ) where
+  -- a refusal is the one that was due
+  pub given-refused : (o : Option Law) (why : Refusal) → refused (numberOf why) ≡ givenThen refused answered o a b c d wal → Refused (numberOf why) → givenThen Refused Then o a b c d wal
+  given-refused none why e h = subst Refused (ap (λ (o : Outcome). o .code) e) h
+  given-refused (some law) why e h = by (sound k) e
+    where
+      k : Certificate
+      k = certificateOf law a b c d wal
+
+      by : (t : Bool) → refused (numberOf why) ≡ (if not t then refused 7 else answered k) → if not t then Refused 7 else Then k
+      by false e = subst Refused (ap (λ (o : Outcome). o .code) e) h
+      by true e = absurd (not-zero why (ap (λ (o : Outcome). o .code) (sym e)))
+
+  -- a certificate is sound, and what is said of it follows
+  pub given-sound : (o : Option Law) (k : Certificate) → answered k ≡ givenThen refused answered o a b c d wal → sound k ≡ true
+  given-sound none k e = absurd (not-refused 2 k (sym e))
+  given-sound (some law) k e = by (sound k′) refl e
+    where
+      k′ : Certificate
+      k′ = certificateOf law a b c d wal
+
+      by : (t : Bool) → sound k′ ≡ t → answered k ≡ (if not t then refused 7 else answered k′) → sound k ≡ true
+      by false s e = absurd (not-refused 6 k (sym e))
+      by true s e = subst (λ (k : Certificate). sound k ≡ true) (answered-unique k′ k (sym e)) s
+
+  pub given-then : (o : Option Law) (k : Certificate) → answered k ≡ givenThen refused answered o a b c d wal → Then k → givenThen Refused Then o a b c d wal
+  given-then none k e h = absurd (not-refused 2 k (sym e))
+  given-then (some law) k e h = by (sound k′) e
+    where
+      k′ : Certificate
+      k′ = certificateOf law a b c d wal
+
+      by : (t : Bool) → answered k ≡ (if not t then refused 7 else answered k′) → if not t then Refused 7 else Then k′
+      by false e = absurd (not-refused 6 k (sym e))
+      by true e = subst Then (answered-unique k k′ e) h

@@ -1,0 +1,3 @@
+pub mod Sized
+pub mod Rising
+pub mod Loss

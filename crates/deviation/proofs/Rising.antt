@@ -1,0 +1,103 @@
+-- Wr rises with the ratio: by 75 to 125 units of 10^-11 from one ratio to the next, across W(Al) too.
+use mathlib.Core.Path.{_≡_, refl}
+use mathlib.Core.Bool.{true, false}
+use mathlib.Core.List.{[], _∷_}
+use Prim.Native.Nat.{ℕ, zero, suc, _+_, _*_, _<_, _≤_}
+use native.Mathlib.Decide.{decLt}
+use native.Mathlib.Omega.{arith}
+use lib.IntN.{ℤ, pos, natAbs, _+ℤ_, _-ℤ_}
+use lib.Signed.{_≤ℤ_, _<ℤ_}
+use Rattle.whole.proofs.Parts.{up, dn, ints, one-part, abs-parts, add-parts, sub-parts}
+use Rattle.polynomial.specs.Polynomial.{rounded}
+use Rattle.polynomial.proofs.Sizes.{size, abs-rounded}
+use Rattle.polynomial.proofs.Rise.{spread, apart}
+use Rattle.quantity.specs.Quantities.{one, largestRatio}
+use Rattle.scale.specs.Deviation.{fine, x, plainDeviation}
+use Rattle.scale.proofs.Deviations as scale
+use Rattle.certificate.specs.declared.certificate.Certificate.{Certificate}
+use Rattle.deviation.specs.Working.{hasDTerm, z, dTerm, deviation, Wr}
+use Rattle.deviation.specs.Promised.{Increasing}
+use Rattle.deviation.proofs.Sized.{Sized, sized, counted, Next, neither, starts, both, next, z-parts, abc, od, x-size, z-size}
+
+x-next : (w : ℕ) → x (suc w) ≡ x w +ℤ pos 1
+x-next w = omega (ints, scale.x-parts w, scale.x-parts (suc w), add-parts (x w) (pos 1))
+
+z-next : (k : Certificate) (w : ℕ) → z k (suc w) ≡ z k w +ℤ pos 1
+z-next k w = omega (ints, z-parts k w, z-parts k (suc w), add-parts (z k w) (pos 1))
+
+module _ (k : Certificate) (s : Sized k) (w : ℕ) (h : w < largestRatio) where
+  plain-near : natAbs (plainDeviation (k .a) (k .b) (k .c) (x (suc w)) -ℤ plainDeviation (k .a) (k .b) (k .c) (x w)) ≤ 20
+  unfolding plainDeviation spread size
+  plain-near =
+      let b : natAbs (x w +ℤ pos 1) ≤ scale.farthest = rw (x-next w) at (x-size k s (suc w) (omega arith)) in
+      rw (x-next w) (omega (arith, apart one scale.farthest (omega arith) (x w) (x-size k s w (omega arith)) b (pos 0) (abc k s)))
+
+  silver-near : natAbs (dTerm k (suc w) -ℤ dTerm k w) ≤ 5
+  unfolding dTerm spread size
+  silver-near = by (next k w)
+    where
+      by : Next k w → natAbs (dTerm k (suc w) -ℤ dTerm k w) ≤ 5
+      by (neither p q) = rw (p, q) (omega arith)
+      by (starts p q e) =
+          let o : natAbs (z k (suc w)) ≤ 0 = omega (arith, e, z-parts k (suc w), abs-parts (z k (suc w)), one-part (z k (suc w))) in
+          let v = rounded one (z k (suc w)) (pos 0) (pos 0 ∷ k .d ∷ []) in
+          rw (p, q)
+          (omega (
+            arith,
+            abs-rounded one 0 (omega arith) (z k (suc w)) o (pos 0) 0 (omega arith) (od k s),
+            sub-parts v (pos 0),
+            abs-parts v,
+            abs-parts (v -ℤ pos 0),
+            one-part (v -ℤ pos 0),
+          ))
+      by (both p q) =
+          let b : natAbs (z k w +ℤ pos 1) ≤ 1_030_000_000 = rw (z-next k w) at (z-size k s (suc w) (omega arith) q) in
+          rw (p, q, z-next k w)
+          (omega (arith, apart one 1_030_000_000 (omega arith) (z k w) (z-size k s w (omega arith) p) b (pos 0) (od k s)))
+
+  pub step-up : (up (Wr k w) + dn (Wr k (suc w)) + 75 ≤ up (Wr k (suc w)) + dn (Wr k w)) × (up (Wr k (suc w)) + dn (Wr k w) ≤ up (Wr k w) + dn (Wr k (suc w)) + 125)
+  unfolding Wr deviation
+  step-up =
+      let p = plainDeviation (k .a) (k .b) (k .c) (x w) in
+      let p′ = plainDeviation (k .a) (k .b) (k .c) (x (suc w)) in
+      let q = dTerm k w in
+      let q′ = dTerm k (suc w) in
+      omega (
+        arith,
+        plain-near,
+        silver-near,
+        abs-parts (p′ -ℤ p),
+        abs-parts (q′ -ℤ q),
+        sub-parts p′ p,
+        sub-parts q′ q,
+        add-parts p q,
+        add-parts p′ q′,
+        sub-parts (pos (fine * w)) (p +ℤ q),
+        sub-parts (pos (fine * suc w)) (p′ +ℤ q′),
+      )
+
+module _ (k : Certificate) (s : Sized k) where
+  up-one : (w : ℕ) → w < largestRatio → Wr k w <ℤ Wr k (suc w)
+  up-one w h = omega (ints, step-up k s w h)
+
+  pub rises-from : (v w : ℕ) → v < w → w ≤ largestRatio → Wr k v <ℤ Wr k w
+  rises-from v zero l h = absurd (omega arith)
+  rises-from v (suc w) l h = by (decLt v w) (λ l. rises-from v w l (omega arith))
+    where
+      by : Dec (v < w) → (v < w → Wr k v <ℤ Wr k w) → Wr k v <ℤ Wr k (suc w)
+      by (yes m) f = omega (ints, f m, up-one w (omega arith))
+      by (no m) f =
+          let e : v ≡ w = omega arith in
+          rw e (up-one w (omega arith))
+
+  pub not-falling : (v w : ℕ) → v ≤ w → w ≤ largestRatio → Wr k v ≤ℤ Wr k w
+  not-falling v w l h = by (decLt v w)
+    where
+      by : Dec (v < w) → Wr k v ≤ℤ Wr k w
+      by (yes m) = omega (ints, rises-from v w m h)
+      by (no m) =
+          let e : v ≡ w = omega arith in
+          rw e (omega ints)
+
+pub rises : Increasing
+rises k e v w l h = rises-from k (sized k e) v w l h

@@ -1,0 +1,85 @@
+use borrow.Author.Needs.{needs}
+use mathlib.Core.Path.{_≡_, sym, _∙_}
+use mathlib.Core.Bool.{true, false}
+use Prim.Native.Nat.{_≤_}
+use native.Mathlib.Omega.{arith}
+use lib.IntN.{pos}
+use mir.Syntax.{w64}
+use mir.Val.{SFits, toZ, ofZ}
+use mir.Facts.{toZ-ofZ}
+use Rattle.whole.proofs.Size.{abs→fits, difference-fits}
+use Rattle.whole.proofs.Machine.{back}
+use Rattle.quantity.specs.Quantities.{largestRatio}
+use Rattle.deviation.specs.Working.{hasDTerm, z, dTerm}
+use Rattle.deviation.proofs.Sized.{Sized, sized, counted, z-size}
+use Rattle.deviation.proofs.silver_term.Statement.{statement}
+use Rattle.deviation.proofs.silver_term.Tie as tie
+
+counts-requires : tie.Need-counts-requires
+counts-requires c κs = search needs
+
+all : (s : tie.Start) → Sized (s .args .k)
+all s = sized (s .args .k) (s .pre .0)
+
+d-fits : (s : tie.Start) → SFits w64 (s .args .k .d)
+d-fits s = abs→fits (s .args .k .d) (omega (arith, all s .d))
+
+yes : (c : tie.Then1) → hasDTerm (c .before .before .args .k) (c .before .before .args .w) ≡ true
+yes c = sym (c .before .counts .ensures) ∙ c .if1 .taken
+
+wal-size : (c : tie.Then1) → c .before .before .args .k .wal .0 ≤ largestRatio
+wal-size c =
+    let s = c .before .before in
+    all s .wal (counted (s .args .k) (s .args .w) (yes c) .0) .1
+
+signed-requires : tie.Need-signed-requires
+signed-requires c κs = search needs
+
+signed-requires-2 : tie.Need-signed-requires-2
+signed-requires-2 c κs = omega (arith, wal-size (c .before .before))
+
+difference-requires : tie.Need-difference-requires
+difference-requires c κs =
+    let a = c .before in
+    let t = a .before .before in
+    let s = t .before .before in
+    rw (back (a .signed .result) (a .signed .ok), a .signed .ensures, back (c .signed2 .result) (c .signed2 .ok), c .signed2 .ensures)
+    (difference-fits (pos (s .args .w)) (pos (s .args .k .wal .0)) (omega (arith, wal-size t, s .pre .1)))
+
+is-z : (c : tie.After-difference) → toZ w64 (ofZ w64 (c .difference .result)) ≡ z (c .before .before .before .before .before .before .args .k) (c .before .before .before .before .before .before .args .w)
+unfolding z
+is-z c =
+    let b = c .before in
+    let a = b .before in
+    rw (back (c .difference .result) (c .difference .ok), c .difference .ensures, back (a .signed .result) (a .signed .ok), a .signed .ensures, back (b .signed2 .result) (b .signed2 .ok), b .signed2 .ensures)
+
+twice-requires : tie.Need-twice-requires
+twice-requires c κs =
+    let d = c .before in
+    let t = d .before .before .before .before in
+    let s = t .before .before in
+    rw (toZ-ofZ (d-fits s), is-z d) (all s .d, omega (arith, z-size (s .args .k) (all s) (s .args .w) (s .pre .1) (yes t)))
+
+returns : tie.Need-returns
+unfolding dTerm
+returns c =
+    let d = c .before .before in
+    let t = d .before .before .before .before in
+    let s = t .before .before in
+    rw (yes t, back (c .twice .result) (c .twice .ok), c .twice .ensures, toZ-ofZ (d-fits s), is-z d)
+
+returns-2 : tie.Need-returns-2
+unfolding dTerm
+returns-2 c = rw (sym (c .before .counts .ensures) ∙ c .if1 .left)
+
+pub silver-term-spec : {M : Type 1} → statement M
+silver-term-spec =
+    tie.close
+    (tie.spec
+    counts-requires
+    signed-requires
+    signed-requires-2
+    difference-requires
+    twice-requires
+    returns
+    returns-2)

@@ -1,0 +1,5 @@
+pub mod Laws
+pub mod Reading
+pub mod Forward
+pub mod Tolerance
+pub mod Promised
