@@ -55,11 +55,11 @@ certificateOf law a b c d wal = record { law = law; a = a; b = b; c = c; d = d; 
 
 -- What follows from a given certificate, its law named. 3: no law has the name; 7: it is not sound; else what is said of the certificate.
 abbrev pub givenThen {ℓ} : {A : Type ℓ} → (ℕ → A) → (Certificate → A) → Option Law → ℤ → ℤ → ℤ → ℤ → ℕ → A
-givenThen refuse certify none a b c d wal = refuse 3
-givenThen refuse certify (some law) a b c d wal =
+givenThen refuse follow none a b c d wal = refuse 3
+givenThen refuse follow (some law) a b c d wal =
     let k = certificateOf law a b c d wal in
     if not (sound k) then refuse 7
-    else certify k
+    else follow k
 
 -- The certificate itself is what is answered.
 abbrev pub givenAnswer : ℕ → ℤ → ℤ → ℤ → ℤ → ℕ → Outcome

@@ -65,12 +65,12 @@ pub fn given(name: Name, a: i64, b: i64, c: i64, d: i64, wal: Ratio) -> Certific
         NamedLaw::Unknown => CertificateAnswer::Refused(Refusal::NameUnknown),
         NamedLaw::Known(law) => {
             let k = Certificate {
-                law: law,
-                a: a,
-                b: b,
-                c: c,
-                d: d,
-                wal: wal,
+                law,
+                a,
+                b,
+                c,
+                d,
+                wal,
             };
             if sound(k) {
                 return CertificateAnswer::Certificate(k);

@@ -3,7 +3,7 @@ ghost use mathlib.Core.Path.{_≡_};
 ghost use mathlib.Core.Bool.{true};
 ghost use mathlib.Core.List.{[], _∷_};
 ghost use Prim.Native.Nat.{_≤_};
-ghost use lib.IntN.{pos, natAbs, _-ℤ_};
+ghost use lib.IntN.{pos, natAbs};
 ghost use Rattle.polynomial.specs.Polynomial.{rounded};
 ghost use Rattle.quantity.specs.Quantities.{one, largestRatio};
 ghost use Rattle.scale.specs.Deviation.{largestCoefficient, x, plainDeviation};
@@ -15,8 +15,8 @@ use scale::ONE;
 use scale::offset;
 use scale::plain_deviation;
 
-// Whether the d term counts: for ag, at W(Al) and above.
-fn counts(k: Certificate, w: u64) -> bool
+// Whether there is a d term: for ag, at W(Al) and above.
+fn has_d_term(k: Certificate, w: u64) -> bool
     ensures { λ b. ⌜ b ≡ hasDTerm k w ⌝ }
 {
     let law = k.law;
@@ -32,11 +32,11 @@ fn twice(d: i64, z: i64) -> i64
     polynomial::turn(polynomial::turn(d, z, ONE, 0), z, ONE, 0)
 }
 
-fn silver_term(k: Certificate, w: u64) -> i64
+fn d_term(k: Certificate, w: u64) -> i64
     requires { ⌜ (sound k ≡ true) × (w ≤ largestRatio) ⌝ }
     ensures { λ r. ⌜ r ≡ dTerm k w ⌝ }
 {
-    if counts(k, w) {
+    if has_d_term(k, w) {
         let wal = k.wal;
         let z = whole::difference(whole::signed(w), whole::signed(wal.0));
         return twice(k.d, z);
@@ -55,7 +55,7 @@ pub fn deviation(k: Certificate, w: u64) -> i64
     requires { ⌜ (sound k ≡ true) × (w ≤ largestRatio) ⌝ }
     ensures { λ r. ⌜ r ≡ deviationOf k w ⌝ }
 {
-    whole::sum(plain_part(k, w), silver_term(k, w))
+    whole::sum(plain_part(k, w), d_term(k, w))
 }
 
 // The ratio less its deviation, in units of 10^-11.

@@ -5,6 +5,7 @@ use evidence::Drawn;
 use evidence::Generator;
 use scale::Ag;
 use scale::Al;
+use scale::CURVE;
 use scale::Cell;
 use scale::Ga;
 use scale::In;
@@ -83,9 +84,6 @@ pub fn places_text(
     at = evidence::signed(line, at, d);
     evidence::natural(line, at, wal)
 }
-
-// "curve"
-const CURVE: u64 = 0x63_7572_7665;
 
 pub fn law_name(law: u64) -> u64
     ensures { λ r. ⌜ (1 ≤ r) × (r ≤ 2 ^ 40) ⌝ }

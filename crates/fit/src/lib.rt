@@ -8,7 +8,7 @@ ghost use lib.IntN.{pos, natAbs, _+ℤ_, _-ℤ_};
 ghost use lib.Signed.{_<ℤ_};
 ghost use Rattle.quantity.specs.Quantities.{one};
 ghost use Rattle.scale.specs.Deviation.{largestCoefficient, plainDeviation};
-ghost use Rattle.fit.specs.Fit.{_·_, _÷_, q as qOf, r as rOf, ofOne, ofTwo, ofThree, withSilver, fit, beyond as beyondOf};
+ghost use Rattle.fit.specs.Fit.{_·_, _÷_, q as qOf, ofOne, ofTwo, ofThree, withSilver, fit, beyond as beyondOf};
 ghost use Rattle.fit.specs.Room.{Kept, Spread, Roomy, wide, StandFor};
 use scale::LARGEST_COEFFICIENT;
 use scale::ONE;
@@ -86,7 +86,7 @@ pub fn of_two(p1: Point, p2: Point) -> Coefficients
     let b = slope(q1, q(p2), p1, p2);
     Coefficients {
         a: whole::difference(q1, times_x(b, p1)),
-        b: b,
+        b,
         c: 0,
         d: 0,
     }
@@ -121,8 +121,8 @@ pub fn of_three(p1: Point, p2: Point, p3: Point) -> Coefficients
     let b = coefficient_b(r12, c, p1, p2);
     Coefficients {
         a: coefficient_a(q1, b, c, p1),
-        b: b,
-        c: c,
+        b,
+        c,
         d: 0,
     }
 }
@@ -156,7 +156,7 @@ fn with_silver(k: Coefficients, al: Point, ag: Point) -> Coefficients
         a: k.a,
         b: k.b,
         c: k.c,
-        d: d,
+        d,
     }
 }
 

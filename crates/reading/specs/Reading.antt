@@ -42,7 +42,8 @@ ReadRatio k w o =
     else if leZ (valueAt law (last law +ℤ pos 1)) (valueOf law k w) then o ≡ refused 9
     else (o .code ≡ 0) × (o .law ≡ some law) × Largest (valueAt law) (first law) (last law) (valueOf law k w) (o .step)
 
--- Of two resistances, R0 being that at the water triple point by the scale and that at 0 °C by the curve. 1: R or R0 outside its limits; 2: a ratio above 4.4; then what the ratio reads.
+-- Of two resistances, R0 being that at the water triple point by the scale and that at 0 °C by the curve. 1: R or R0 outside its limits; 2: a ratio above
+-- 4.4; then what the ratio reads.
 abbrev pub ReadBy : Certificate → ℕ → ℕ → Outcome → Type 0
 ReadBy k r r0 o =
     if not (isReading r && isDivisor r0) then o ≡ refused 1

@@ -48,7 +48,24 @@ fn used_by(law: u64) -> u64 {
     }
 }
 
-// A coefficient: 0, any within its limit, at its limit, or a small one; 0 where the law does not use the place.
+// A coefficient: 0, any within its limit, at its limit on the side of that one, or a small one.
+fn sound_value(kind: u64, any: i64, small: i64) -> i64 {
+    if kind == 0 {
+        return 0;
+    }
+    if kind == 1 {
+        return any;
+    }
+    if kind == 3 {
+        return small;
+    }
+    if whole::less(any, 0) {
+        return -100_000_000;
+    }
+    100_000_000
+}
+
+// What a place of a sound certificate holds: 0 where the law does not use it.
 fn sound_place(g: Generator, is_used: bool) -> Signed {
     let kind = g.under(4);
     let g1 = kind.generator;
@@ -56,39 +73,15 @@ fn sound_place(g: Generator, is_used: bool) -> Signed {
     let g2 = any.generator;
     let small = around(g2, 1_000_000);
     let g3 = small.generator;
-    if !is_used {
+    if is_used {
         return Signed {
             generator: g3,
-            value: 0,
-        };
-    }
-    if kind.value == 0 {
-        return Signed {
-            generator: g3,
-            value: 0,
-        };
-    }
-    if kind.value == 1 {
-        return Signed {
-            generator: g3,
-            value: any.value,
-        };
-    }
-    if kind.value == 2 {
-        if whole::less(any.value, 0) {
-            return Signed {
-                generator: g3,
-                value: -100_000_000,
-            };
-        }
-        return Signed {
-            generator: g3,
-            value: 100_000_000,
+            value: sound_value(kind.value, any.value, small.value),
         };
     }
     Signed {
         generator: g3,
-        value: small.value,
+        value: 0,
     }
 }
 

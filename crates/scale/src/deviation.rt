@@ -1,6 +1,5 @@
 // x = W - 1, the deviation W - Wr of a cell, its limit, and the working deviation.
 ghost use mathlib.Core.Path.{_≡_};
-ghost use mathlib.Core.Bool.{not};
 ghost use Prim.Native.Nat.{_+_, _≤_};
 ghost use lib.IntN.{natAbs};
 ghost use Rattle.quantity.specs.Quantities.{one, largestRatio};

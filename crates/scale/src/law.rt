@@ -17,8 +17,8 @@ pub enum NamedLaw {
     Unknown,
 }
 
-// "curve"
-const CURVE: u64 = 0x63_7572_7665;
+// The curve's name.
+pub const CURVE: u64 = 0x63_7572_7665;
 
 impl Law {
     pub fn named(name: Name) -> NamedLaw

@@ -13,6 +13,7 @@ pub use deviation::cell_deviation;
 pub use deviation::offset;
 pub use deviation::plain_deviation;
 pub use deviation::within;
+pub use law::CURVE;
 pub use law::Law;
 pub use law::NamedLaw;
 pub use name::Name;

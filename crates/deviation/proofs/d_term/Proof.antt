@@ -12,11 +12,11 @@ use Rattle.whole.proofs.Machine.{back}
 use Rattle.quantity.specs.Quantities.{largestRatio}
 use Rattle.deviation.specs.Working.{hasDTerm, z, dTerm}
 use Rattle.deviation.proofs.Sized.{Sized, sized, counted, z-size}
-use Rattle.deviation.proofs.silver_term.Statement.{statement}
-use Rattle.deviation.proofs.silver_term.Tie as tie
+use Rattle.deviation.proofs.d_term.Statement.{statement}
+use Rattle.deviation.proofs.d_term.Tie as tie
 
-counts-requires : tie.Need-counts-requires
-counts-requires c κs = search needs
+has-d-term-requires : tie.Need-has-d-term-requires
+has-d-term-requires c κs = search needs
 
 all : (s : tie.Start) → Sized (s .args .k)
 all s = sized (s .args .k) (s .pre .0)
@@ -25,7 +25,7 @@ d-fits : (s : tie.Start) → SFits w64 (s .args .k .d)
 d-fits s = abs→fits (s .args .k .d) (omega (arith, all s .d))
 
 yes : (c : tie.Then1) → hasDTerm (c .before .before .args .k) (c .before .before .args .w) ≡ true
-yes c = sym (c .before .counts .ensures) ∙ c .if1 .taken
+yes c = sym (c .before .has-d-term .ensures) ∙ c .if1 .taken
 
 wal-size : (c : tie.Then1) → c .before .before .args .k .wal .0 ≤ largestRatio
 wal-size c =
@@ -70,13 +70,13 @@ returns c =
 
 returns-2 : tie.Need-returns-2
 unfolding dTerm
-returns-2 c = rw (sym (c .before .counts .ensures) ∙ c .if1 .left)
+returns-2 c = rw (sym (c .before .has-d-term .ensures) ∙ c .if1 .left)
 
-pub silver-term-spec : {M : Type 1} → statement M
-silver-term-spec =
+pub d-term-spec : {M : Type 1} → statement M
+d-term-spec =
     tie.close
     (tie.spec
-    counts-requires
+    has-d-term-requires
     signed-requires
     signed-requires-2
     difference-requires
