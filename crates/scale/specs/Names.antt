@@ -1,15 +1,18 @@
 -- Names of laws and subranges.
+use mathlib.Core.List.{List, [], _∷_}
 use Prim.Native.Nat.{ℕ, _+_, _*_}
-use Prim.Native.Char.{code}
 use Prim.Native.String.{String}
-use Prim.Native.String as text
+use Rattle.whole.specs.Text.{ascii}
 
--- The number n with a text's letters after its digits, in base 256.
-abbrev pub after : ℕ → String → ℕ
-after n text.[] = n
-after n (text._∷_ letter letters) = after (n * 256 + code letter) letters
+-- The number n with bytes after its digits, in base 256.
+abbrev pub after : ℕ → List ℕ → ℕ
+after n [] = n
+after n (letter ∷ letters) = after (n * 256 + letter) letters
 
 -- A name of ASCII letters as a number: the letters' bytes are its digits in base 256, the first letter highest. A name of up to eight letters is a number of
 -- 64 bits.
+abbrev pub nameOf : List ℕ → ℕ
+nameOf letters = after 0 letters
+
 abbrev pub spelled : String → ℕ
-spelled name = after 0 name
+spelled name = nameOf (ascii name)

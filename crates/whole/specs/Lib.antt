@@ -2,3 +2,4 @@ pub mod Any
 pub mod Choice
 pub mod Floor
 pub mod Largest
+pub mod Text
