@@ -14,7 +14,7 @@ pub const FIRST: i64 = -2_000_000;
 pub const LAST: i64 = 8_500_000;
 
 // The place of 0 °C, and the one past that of 850 °C.
-const ZERO: u64 = 2_000_000;
+pub const ZERO: u64 = 2_000_000;
 
 pub const PAST_LAST: u64 = 10_500_001;
 

@@ -1,6 +1,7 @@
 // The curve of IEC 60751: reading, the way back from a step to its ratio, and the tolerance classes.
 mod exact;
 mod forward;
+mod guess;
 mod reading;
 mod tolerance;
 

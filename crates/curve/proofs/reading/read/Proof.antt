@@ -23,27 +23,27 @@ returns-3 c =
     let w = c .before .before .before .args .w .0 in
     reads-past w (omega arith) (not-under-first w (omega arith)) (not-under-past-last w (omega arith))
 
-search-requires : tie.Need-search-requires
-search-requires c κs =
+find-requires : tie.Need-find-requires
+find-requires c κs =
     let w = c .before .before .before .args .w .0 in
-    ((not-under-first w (omega arith), under-past-last w (omega arith)), (omega arith, omega arith))
+    (omega arith, not-under-first w (omega arith), under-past-last w (omega arith))
 
 signed-requires : tie.Need-signed-requires
-signed-requires c κs = omega (arith, place-bound (c .search .result) (c .search .ensures .to-last))
+signed-requires c κs = omega (arith, place-bound (c .find .result) (c .find .ensures .to-last))
 
 sum-requires : tie.Need-sum-requires
 sum-requires c κs =
-    let place = c .before .search .result in
-    rw (back _ (c .signed .ok), c .signed .ensures) (sum-fits first (pos place) (omega (arith, place-bound place (c .before .search .ensures .to-last))))
+    let place = c .before .find .result in
+    rw (back _ (c .signed .ok), c .signed .ensures) (sum-fits first (pos place) (omega (arith, place-bound place (c .before .find .ensures .to-last))))
 
 returns-4 : tie.Need-returns-4
 returns-4 c =
     let s = c .before .before in
     let w = s .before .before .before .before .args .w .0 in
-    rw (back _ (c .sum .ok), c .sum .ensures, back _ (c .before .signed .ok), c .before .signed .ensures, as-sum (s .search .result))
-    (reads-step w (stepAt (s .search .result)) (omega arith) (not-under-first w (omega arith)) (under-past-last w (omega arith)) (s .search .ensures))
+    rw (back _ (c .sum .ok), c .sum .ensures, back _ (c .before .signed .ok), c .before .signed .ensures, as-sum (s .find .result))
+    (reads-step w (stepAt (s .find .result)) (omega arith) (not-under-first w (omega arith)) (under-past-last w (omega arith)) (s .find .ensures))
 
 pub read-spec : {M : Type 1} → statement M
 read-spec =
     tie.close
-    (tie.spec returns returns-2 returns-3 search-requires signed-requires sum-requires returns-4)
+    (tie.spec returns returns-2 returns-3 find-requires signed-requires sum-requires returns-4)

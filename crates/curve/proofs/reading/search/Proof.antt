@@ -11,7 +11,6 @@ use Rattle.whole.proofs.Halving.{Between, upper, lower, neighbours}
 use Rattle.curve.specs.Curve.{exact, units, first, last}
 use Rattle.curve.specs.Places.{stepAt}
 use Rattle.curve.proofs.Rising.{one-up}
-use Rattle.curve.proofs.Ends.{within-limit}
 use Rattle.curve.proofs.Places.{from-first, to-last, next-place}
 use Rattle.curve.proofs.reading.search.Statement.{statement}
 use Rattle.curve.proofs.reading.search.Tie as tie
@@ -21,10 +20,10 @@ abbrev at : ℕ → ℤ
 at place = exact (stepAt place)
 
 abbrev Inv-loop : tie.InvT-loop
-Inv-loop w allowed low₀ high₀ left₀ low high left = Between at 10_500_001 (units w) low high left
+Inv-loop from to w allowed low₀ high₀ left₀ low high left = Between at 10_500_001 (units w) low high left
 
 abbrev μ-loop : tie.MeasureT-loop
-μ-loop w allowed low₀ high₀ left₀ low high left = left
+μ-loop from to w allowed low₀ high₀ left₀ low high left = left
 
 -- neighbouring places: the lower one has the largest step
 found : (value : ℤ) (low high : ℕ) → Between at 10_500_001 value low high 0 → Largest exact first last value (stepAt low)
@@ -34,15 +33,7 @@ found value low high b =
     largest-by-next exact first last one-up value (stepAt low) (from-first low) (to-last low (omega (arith, b .within))) (b .not-above) (rw (next-place low) h)
 
 loop-holds : tie.Need-loop-holds Inv-loop μ-loop
-unfolding stepAt
-loop-holds c =
-    record {
-      order = omega arith;
-      within = omega arith;
-      not-above = c .pre .0 .0;
-      above = c .pre .0 .1;
-      near = omega (arith, c .pre .1 .0);
-    }
+loop-holds c = record { order = c .pre .0 .0; within = c .pre .0 .1; not-above = c .pre .1 .1; above = c .pre .1 .2; near = c .pre .0 .2 }
 
 sub-left : tie.Need-sub-left Inv-loop μ-loop
 sub-left c = omega arith
@@ -51,7 +42,7 @@ add-middle : tie.Need-add-middle Inv-loop μ-loop
 add-middle c = omega arith
 
 reached-requires : tie.Need-reached-requires Inv-loop μ-loop
-reached-requires c κs = (omega arith, within-limit (c .before .before .args .w) (c .before .before .pre .0 .1))
+reached-requires c κs = (omega arith, c .before .before .pre .1 .0)
 
 loop-less : tie.Need-loop-less Inv-loop μ-loop
 loop-less c = omega arith
