@@ -1,4 +1,5 @@
-"""Makes the expected outputs crates/NAME/stdout and compares the files with them."""
+"""Makes the expected outputs crates/NAME/stdout, the input of `launchlist` and the
+answer to the example list, and compares the files with them."""
 
 import sys
 
@@ -11,29 +12,47 @@ from pathlib import Path
 import certificate_cases
 import curve_cases
 import ground
+import launchlist_cases
 import reading
 import reading_cases
 from cases import CheckFailed
 from certificate import WR, certify, given
 from curve import allows, forward, read, tolerance
+from launchlist import answer
 from quantity import Refused, kelvin, quotient_down, ratio
 from reading import deviation_at
 from reference import BELOW, PAST, PAST_TOP, TOP, inverse, working
 
+ROOT = Path(__file__).resolve().parent.parent
+
+EXAMPLE_LIST = "examples/round.csv"
+
+
+def example_answer():
+    """The answer to the example list, which is written by hand."""
+    file = ROOT / EXAMPLE_LIST
+    if not file.is_file():
+        raise CheckFailed(f"{EXAMPLE_LIST} is missing")
+    return answer(file.read_bytes())
+
+
+# Each file and its maker; a program may have several.
 MAKERS = {
-    "ground": ground.make,
-    "curve_cases": curve_cases.make,
-    "certificate_cases": certificate_cases.make,
-    "reading_cases": reading_cases.make,
+    "crates/ground/stdout": ground.make,
+    "crates/curve_cases/stdout": curve_cases.make,
+    "crates/certificate_cases/stdout": certificate_cases.make,
+    "crates/reading_cases/stdout": reading_cases.make,
+    "crates/launchlist/stdin": launchlist_cases.stdin,
+    "crates/launchlist/stdout": launchlist_cases.stdout,
+    "examples/round.answer.csv": example_answer,
 }
 
 USAGE = """\
 usage: python3 second/expected.py              compare the files
        python3 second/expected.py --write      write the files
-       python3 second/expected.py --show NAME  print one as made
+       python3 second/expected.py --show FILE  print one as made
+FILE is a path as listed by comparing, or NAME for crates/NAME/stdout.
 """
-
-ROOT = Path(__file__).resolve().parent.parent
 
 
 def outcome(function, arguments):
@@ -124,6 +143,52 @@ def past_top_of_ga(short):
     w = -(-wr // 100)
     a = -((wr - 100 * w) * 10**9 // (w - 10**9))
     return read_ratio(("ga", a, 0, 0, 0, 0), w)
+
+
+def crlf(text):
+    """The lines of a text in ASCII, each ended by CRLF."""
+    return text.replace("\n", "\r\n").encode("ascii")
+
+
+# The two lists of the document.
+LIST = crlf(
+    """\
+id,law,r,r0,a,b,c,d,wal
+F1,curve,138505500000,100000000000,0,0,0,0,0
+F2,ag,69539313500,25000000000,0,0,0,0,3376008600
+F3,zn,69539313500,25000000000,0,0,0,0,0
+"""
+)
+ANSWERS = crlf(
+    """\
+id,law,t,code
+F1,curve,1000000,0
+F2,ag,4810000,0
+F3,zn,,9
+"""
+)
+
+LIST_HEAD = crlf("id,law,r,r0,a,b,c,d,wal\n")
+ANSWER_HEAD = crlf("id,law,t,code\n")
+WRONG_HEADER = crlf("id,law,t,code\n?,?,,10\n")
+
+
+def row(name="F1", law="curve", r="138505500000", a="0", d="0", wal="0"):
+    """The document's first line with some of its fields changed."""
+    return f"{name},{law},{r},100000000000,{a},0,0,{d},{wal}".encode("latin-1")
+
+
+def answers(*lines):
+    """What is answered to lines after the header, each ended by CRLF."""
+    made = answer(LIST_HEAD + b"".join(line + b"\r\n" for line in lines))
+    head, *rest, end = made.split(b"\r\n")
+    if head + b"\r\n" != ANSWER_HEAD or end != b"":
+        raise CheckFailed(f"list answered {made}")
+    return b" ".join(rest).decode("ascii")
+
+
+IS_100 = "F1,curve,1000000,0"
+ILL = "?,?,,10"
 
 
 # What, due, then the function and its arguments. The numbers due are copied
@@ -404,6 +469,61 @@ SELF_CHECKS = (
         10**11,
     ),
     ("no class", "refused 3", reading.tolerance, ord("C"), 0, 10**11, 10**11),
+    ("list, the example", ANSWERS, answer, LIST),
+    ("list without its last CRLF", ANSWERS, answer, LIST[:-2]),
+    ("list, empty input", WRONG_HEADER, answer, b""),
+    ("list, header alone", ANSWER_HEAD, answer, LIST_HEAD),
+    ("list, header alone without CRLF", ANSWER_HEAD, answer, LIST_HEAD[:-2]),
+    ("list, header and CR", WRONG_HEADER, answer, LIST_HEAD[:-1]),
+    ("list, empty line first", WRONG_HEADER, answer, b"\r\n" + LIST),
+    ("list, byte order mark", WRONG_HEADER, answer, b"\xef\xbb\xbf" + LIST),
+    ("list, header in upper case", WRONG_HEADER, answer, LIST.upper()),
+    ("list, lines ended by LF", WRONG_HEADER, answer, LIST.replace(b"\r", b"")),
+    ("list, empty line last", ANSWERS + crlf("?,?,,10\n"), answer, LIST + b"\r\n"),
+    ("list, CR last", ANSWERS + crlf("?,?,,10\n"), answer, LIST + b"\r"),
+    ("empty line between", f"{IS_100} {ILL} {IS_100}", answers, row(), b"", row()),
+    ("200 bytes, 201 bytes", f"{ILL} {ILL}", answers, b"x" * 200, b"x" * 201),
+    ("line after a long one", f"{ILL} {IS_100}", answers, b"x" * 201, row()),
+    ("good line past 200 bytes", ILL, answers, b"x" * 200 + row()),
+    ("two lines joined by LF", ILL, answers, row() + b"\n" + row()),
+    ("CR before CRLF", ILL, answers, row() + b"\r"),
+    ("LF after CRLF", ILL, answers, b"\n" + row()),
+    ("trailing comma", ILL, answers, row() + b","),
+    ("too few fields", ILL, answers, row()[:-2]),
+    ("id of 16 bytes", "-" * 16 + ",curve,1000000,0", answers, row("-" * 16)),
+    ("id of 17 bytes", ILL, answers, row("A" * 17)),
+    ("no id", ILL, answers, row("")),
+    ("id with an underscore", ILL, answers, row("F_1")),
+    ("id past ASCII", ILL, answers, row("\xe9")),
+    ("law of 8 letters", "F1,abcdefgh,,3", answers, row(law="abcdefgh")),
+    ("law of 9 letters", ILL, answers, row(law="abcdefghi")),
+    ("law in upper case", ILL, answers, row(law="CURVE")),
+    ("law with a digit", ILL, answers, row(law="ag1")),
+    ("leading zero", ILL, answers, row(r="0138505500000")),
+    ("two zeros", ILL, answers, row(a="00")),
+    ("minus before 0", ILL, answers, row(a="-0")),
+    ("minus before R", ILL, answers, row(r="-138505500000")),
+    ("minus before W(Al)", ILL, answers, row(wal="-1")),
+    ("minus before d", "F1,curve,,7", answers, row(d="-1")),
+    ("plus", ILL, answers, row(a="+1")),
+    ("no number", ILL, answers, row(wal="")),
+    ("space", ILL, answers, row(r="138505500000 ")),
+    ("LF at the end of a number", ILL, answers, row(wal="0\n")),
+    ("digit past ASCII", ILL, answers, row(a="1\xb2")),
+    ("R of 13 digits", "F1,curve,,1", answers, row(r="9999999999999")),
+    ("R of 14 digits", ILL, answers, row(r="10000000000000")),
+    ("a of 13 digits", "F1,curve,,7", answers, row(a="-9999999999999")),
+    ("a of 14 digits", ILL, answers, row(a="-10000000000000")),
+    # W = 1, then card 7; card 9 with R0 100 ohm.
+    ("0 °C", "F1,curve,0,0", answers, row(r="100000000000")),
+    ("-200 °C", "F1,curve,-2000000,0", answers, row(r="18520080000")),
+    ("below it", "F1,curve,,8", answers, row(r="18520079999")),
+    ("W = 4.4", "F1,curve,,9", answers, row(r="440000000000")),
+    ("one unit more", "F1,curve,,2", answers, row(r="440000000100")),
+    ("R = 0", "F1,curve,,1", answers, row(r="0")),
+    ("line, 10 before 3", ILL, answers, row(law="pt", a="-0")),
+    ("line, 3 before 7", "F1,pt,,3", answers, row(law="pt", a="1")),
+    ("line, 7 before 1", "F1,curve,,7", answers, row(a="1", r="0")),
 )
 
 
@@ -415,7 +535,11 @@ def self_check():
 
 
 def shown(line):
-    return "no such line" if line is None else ascii(line.decode("latin-1"))
+    if line is None:
+        return "no such line"
+    # Some lines of a list are very long.
+    text = ascii(line.decode("latin-1"))
+    return text if len(text) <= 400 else f"{text[:400]}.. of {len(line)} bytes"
 
 
 def compare(file, made):
@@ -437,8 +561,7 @@ def compare(file, made):
 
 def check_all():
     good = True
-    for name, make in MAKERS.items():
-        label = f"crates/{name}/stdout"
+    for label, make in MAKERS.items():
         wrong = compare(ROOT / label, make())
         print(f"{label}: {wrong or 'as made'}")
         good = good and wrong is None
@@ -447,15 +570,22 @@ def check_all():
 
 def write_all():
     good = True
-    for name, make in MAKERS.items():
-        label = f"crates/{name}"
-        if (ROOT / label).is_dir():
-            (ROOT / label / "stdout").write_bytes(make())
-            print(f"{label}/stdout: written")
+    for label, make in MAKERS.items():
+        if (ROOT / label).parent.is_dir():
+            (ROOT / label).write_bytes(make())
+            print(f"{label}: written")
         else:
             print(f"{label}: no such folder, nothing written")
             good = False
     return good
+
+
+def shown_by(arguments):
+    """The maker of the one file to be printed, or None."""
+    if len(arguments) != 2 or arguments[0] != "--show":
+        return None
+    name = arguments[1]
+    return MAKERS.get(name) or MAKERS.get(f"crates/{name}/stdout")
 
 
 def main(arguments):
@@ -465,8 +595,8 @@ def main(arguments):
             good = check_all()
         elif arguments == ["--write"]:
             good = write_all()
-        elif arguments[:1] == ["--show"] and arguments[1:] in [[n] for n in MAKERS]:
-            sys.stdout.buffer.write(MAKERS[arguments[1]]())
+        elif shown_by(arguments) is not None:
+            sys.stdout.buffer.write(shown_by(arguments)())
             good = True
         else:
             sys.stderr.write(USAGE)

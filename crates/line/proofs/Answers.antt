@@ -1,0 +1,91 @@
+-- What is written for a row, read or refused, is its answer.
+use mathlib.Core.Path.{_≡_, refl, sym, ap, _∙_, subst}
+use mathlib.Core.Bool.{Bool, true, false, true≢false}
+use mathlib.Core.Option.{some}
+use mathlib.Core.List.{List, [], _∷_, _++_, append-assoc, append-nil}
+use Prim.Native.Nat.{ℕ}
+use lib.IntN.{ℤ, pos, negsuc, natAbs}
+use lib.Signed.{ltZ, _≤ℤ_, _<ℤ_}
+use lib.ListN.{take}
+use borrow.Author.Tests.{ne-eqb}
+use Rattle.whole.specs.Choice.{if_then_else_}
+use Rattle.whole.specs.Text.{ascii}
+use Rattle.whole.proofs.Machine.{lt-yes, lt-no}
+use Rattle.whole.proofs.Parts.{ints}
+use Rattle.quantity.specs.declared.refusal.Refusal.{Refusal}
+use Rattle.quantity.specs.Refusals.{numberOf}
+use Rattle.quantity.proofs.Unique.{not-zero}
+use Rattle.scale.specs.declared.law.Law.{Law}
+use Rattle.reading.specs.Reading.{Outcome, refused, ReadNamed}
+use Rattle.row.specs.declared.row.Row.{Row}
+use Rattle.row.specs.declared.row.Parsed.{Parsed}
+use Rattle.row.specs.declared.row.Parsed.the-variants as parsed
+use Rattle.row.specs.Rows.{wellFormed, idOf, lawOf, rowOf, parsedOf}
+use Rattle.row.proofs.Joined.{named}
+use Rattle.line.specs.declared.lent.LineAnswer.{LineAnswer}
+use Rattle.line.specs.Decimal.{decimal, signedDecimal}
+use Rattle.line.specs.Answer.{names, answerLine, readText, refusedText, ReadRow, Answered}
+use Rattle.line.specs.Lent.{Placed, AnsweredInto}
+
+read-text : (x : List ℕ) → x ++ ascii ",0\r\n" ≡ x ++ ascii "," ++ decimal 0 ++ ascii "\r\n"
+unfolding decimal
+read-text x = sym (append-assoc (x ++ ascii ",") (decimal 0) (ascii "\r\n") ∙ append-assoc x (ascii ",") (decimal 0 ++ ascii "\r\n"))
+
+module _ (line out out′ : List ℕ) (x : LineAnswer) (w : wellFormed line ≡ true) where
+  pub answered-read : (law : Law) (step : ℤ) → ReadRow (rowOf line) (record { code = 0; law = some law; step = step })
+      → Placed 0 (readText (take (rowOf line .prefix) line) (signedDecimal step)) out out′ x → AnsweredInto line out out′ x
+  answered-read law step r p =
+      let o : Outcome = record { code = 0; law = some law; step = step } in
+      let text : readText (take (rowOf line .prefix) line) (signedDecimal step) ≡ answerLine (idOf line) (lawOf line) o =
+      ap (λ (n : List ℕ). readText n (signedDecimal step)) (named line w .first) ∙ read-text (names (idOf line) (lawOf line) ++ signedDecimal step) in
+      (0, answerLine (idOf line) (lawOf line) o, rw w (o, r, refl, refl), subst (λ (t : List ℕ). Placed 0 t out out′ x) text p)
+
+  pub answered-refused : (why : Refusal) → ReadRow (rowOf line) (refused (numberOf why))
+      → Placed (numberOf why) (refusedText (take (rowOf line .prefix) line) (numberOf why)) out out′ x → AnsweredInto line out out′ x
+  answered-refused why r p =
+      let o : Outcome = refused (numberOf why) in
+      let text : refusedText (take (rowOf line .prefix) line) (numberOf why) ≡ answerLine (idOf line) (lawOf line) o =
+      ap (λ (n : List ℕ). refusedText n (numberOf why)) (named line w .first)
+      ∙ rw (ne-eqb (numberOf why) 0 (λ e. not-zero why (sym e)), append-nil (names (idOf line) (lawOf line))) in
+      (numberOf why, answerLine (idOf line) (lawOf line) o, rw w (o, r, refl, refl), subst (λ (t : List ℕ). Placed (numberOf why) t out out′ x) text p)
+
+-- the same reading of equal places
+pub read-same : (name : ℕ) (a b c d a′ b′ c′ d′ : ℤ) (wal r r0 : ℕ) (o : Outcome) → a ≡ a′ → b ≡ b′ → c ≡ c′ → d ≡ d′
+    → ReadNamed name a b c d wal r r0 o → ReadNamed name a′ b′ c′ d′ wal r r0 o
+read-same name a b c d a′ b′ c′ d′ wal r r0 o ea eb ec ed h =
+    subst (λ (z : ℤ). ReadNamed name a′ b′ c′ z wal r r0 o) ed
+    (subst (λ (z : ℤ). ReadNamed name a′ b′ z d wal r r0 o) ec
+    (subst (λ (z : ℤ). ReadNamed name a′ z c d wal r r0 o) eb (subst (λ (z : ℤ). ReadNamed name z b c d wal r r0 o) ea h)))
+
+pub step-below : (z : ℤ) → ltZ z (pos 0) ≡ true → ascii "-" ++ decimal (natAbs z) ≡ signedDecimal z
+step-below (pos n) e = absurd (let h : pos n <ℤ pos 0 = lt-yes refl e in omega ints)
+step-below (negsuc n) e = refl
+
+pub step-above : (z : ℤ) → ltZ z (pos 0) ≡ false → decimal (natAbs z) ≡ signedDecimal z
+step-above (pos n) e = refl
+step-above (negsuc n) e = absurd (let h : pos 0 ≤ℤ negsuc n = lt-no refl e in omega ints)
+
+-- what parsing a line answered
+isRow : Parsed → Bool
+isRow (parsed.Row row) = true
+isRow parsed.IllFormed = false
+
+rowIn : Row → Parsed → Row
+rowIn other (parsed.Row row) = row
+rowIn other parsed.IllFormed = other
+
+pub well-formed : (line : List ℕ) (row : Row) → parsedOf line ≡ parsed.Row row → (wellFormed line ≡ true) × (row ≡ rowOf line)
+unfolding isRow rowIn
+well-formed line row = by (wellFormed line)
+  where
+    by : (t : Bool) → (if t then parsed.Row (rowOf line) else parsed.IllFormed) ≡ parsed.Row row → (t ≡ true) × (row ≡ rowOf line)
+    by true e = (refl, sym (ap (rowIn row) e))
+    by false e = absurd (true≢false (sym (ap isRow e)))
+
+pub ill-formed : (line : List ℕ) → parsedOf line ≡ parsed.IllFormed → wellFormed line ≡ false
+unfolding isRow rowIn
+ill-formed line = by (wellFormed line)
+  where
+    by : (t : Bool) → (if t then parsed.Row (rowOf line) else parsed.IllFormed) ≡ parsed.IllFormed → t ≡ false
+    by true e = ap isRow e
+    by false e = refl

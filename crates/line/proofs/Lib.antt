@@ -1,0 +1,6 @@
+pub mod Overs
+pub mod Decimals
+pub mod Placing
+pub mod Answers
+pub mod Unique
+pub mod Round

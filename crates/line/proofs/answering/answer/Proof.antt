@@ -1,0 +1,51 @@
+use Rattle.line.proofs.Answers.{well-formed, ill-formed}
+use Rattle.line.specs.Answer.{illFormedLine}
+use mathlib.Core.Path.{_≡_, refl, sym, ap, _∙_, subst}
+use borrow.Author.Needs.{needs}
+use Rattle.line.proofs.answering.answer.Statement.{statement}
+use Rattle.line.proofs.answering.answer.Tie as tie
+
+parse-requires : tie.Need-parse-requires
+parse-requires c κs = search needs
+
+enum-known-row : tie.Need-enum-known-row
+enum-known-row c = search needs
+
+answer-row-requires : tie.Need-answer-row-requires
+answer-row-requires c κs = well-formed (c .before .before .before .before .before .before .before .args .line .now) (c .before .before .row .given .0 .0) (sym (c .before .before .before .before .parse .ensures) ∙ c .before .before .row .given .1)
+
+enum-told : tie.Need-enum-told
+enum-told c = search needs
+
+slice-aggregate-place : tie.Need-slice-aggregate-place
+slice-aggregate-place c = search needs
+
+place-requires : tie.Need-place-requires
+place-requires c κs = search needs
+
+same-length : tie.Need-same-length
+same-length c = search needs
+
+returns : tie.Need-returns
+returns c = search needs
+
+same-length-2 : tie.Need-same-length-2
+same-length-2 c = search needs
+
+returns-2 : tie.Need-returns-2
+returns-2 c = (10, illFormedLine, rw (ill-formed (c .before .before .before .before .before .before .before .before .before .before .args .line .now) (sym (c .before .before .before .before .before .before .before .parse .ensures) ∙ c .before .before .before .before .before .enum-told .given .1)) (refl, refl), c .before .before .place .ensures)
+
+pub answer-spec : {M : Type 1} → statement M
+answer-spec =
+    tie.close
+    (tie.spec
+    parse-requires
+    enum-known-row
+    answer-row-requires
+    enum-told
+    slice-aggregate-place
+    place-requires
+    same-length
+    returns
+    same-length-2
+    returns-2)

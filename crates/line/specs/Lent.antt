@@ -1,0 +1,33 @@
+-- The answer to a line in a lent buffer.
+use mathlib.Core.Path.{_≡_}
+use mathlib.Core.List.{List, _++_}
+use Prim.Native.Nat.{ℕ, _+_, _≤_}
+use lib.Dec.{leb}
+use lib.ListN.{length, take, drop}
+use Rattle.whole.specs.Choice.{if_then_else_}
+use Rattle.quantity.specs.Refusals.{numberOf}
+use Rattle.quantity.specs.declared.refusal.Refusal.the-variants.{BufferShort}
+use Rattle.row.specs.Rows.{longestId, longestLaw}
+use Rattle.line.specs.declared.lent.LineAnswer.{LineAnswer}
+use Rattle.line.specs.Answer.{Answered}
+
+-- The buffer with a text written over its bytes from an offset on.
+abbrev pub over : List ℕ → ℕ → List ℕ → List ℕ
+over out at text = take at out ++ text ++ drop (at + length text) out
+
+-- A text in a buffer that may be too short for it: the buffer's first bytes are the text and the others stay, or 11 and every byte stays.
+abbrev pub Placed : ℕ → List ℕ → List ℕ → List ℕ → LineAnswer → Type 0
+Placed number text out out′ x =
+    if leb (length text) (length out) then (x ≡ record { code = number; wrote = length text }) × (out′ ≡ text ++ drop (length text) out)
+    else (x ≡ record { code = numberOf BufferShort; wrote = 0 }) × (out′ ≡ out)
+
+-- What answering a line promises of the number, the count of bytes written and every byte of the buffer.
+abbrev pub AnsweredInto : List ℕ → List ℕ → List ℕ → LineAnswer → Type 0
+AnsweredInto line out out′ x = (number : ℕ) × (text : List ℕ) × Answered line number text × Placed number text out out′ x
+
+-- So many bytes hold every answer line: id, law, t, which has at most 8 bytes, and code, which then has 1, with three commas and CRLF.
+abbrev pub room : ℕ
+room = longestId + 1 + longestLaw + 1 + 8 + 1 + 1 + 2
+
+abbrev pub AnswersFit : Type 0
+AnswersFit = (line : List ℕ) (number : ℕ) (text : List ℕ) → Answered line number text → length text ≤ room

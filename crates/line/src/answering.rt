@@ -1,0 +1,91 @@
+ghost use mathlib.Core.Path.{_≡_};
+ghost use mathlib.Core.Bool.{true};
+ghost use mathlib.Core.List.{_++_};
+ghost use Prim.Native.Nat.{_≤_};
+ghost use lib.ListN.{length};
+ghost use Rattle.row.specs.Rows.{wellFormed, rowOf, longestLine};
+ghost use Rattle.line.specs.Decimal.{decimal, signedDecimal};
+ghost use Rattle.line.specs.Answer.{readText, refusedText};
+ghost use Rattle.line.specs.Lent.{Placed, AnsweredInto};
+use crate::decimal;
+use crate::lent;
+use crate::lent::LineAnswer;
+use quantity::Celsius;
+use reading::ReadingAnswer;
+use row::Parsed;
+use row::Row;
+
+// The names, a sign and a number, for a line that was read.
+fn put_read(names: &[u8], sign: &[u8], size: u64, out: &mut [u8]) -> LineAnswer
+    requires { ⌜ (length (now names) ≤ longestLine) × (length (now sign) ≤ 1) ⌝ }
+    ensures { λ r. ⌜ Placed 0 (readText (now (names .entry)) (now (sign .entry) ++ decimal size)) (now (out .entry)) (now (out .exit)) r ⌝ }
+{
+    let digits = decimal::width(size);
+    let after_names = names.len();
+    let after_sign = after_names + sign.len();
+    let after_digits = after_sign + digits;
+    if out.len() < after_digits + 4 {
+        return LineAnswer { code: 11, wrote: 0 };
+    }
+    lent::put(out, 0, names);
+    lent::put(out, after_names, sign);
+    decimal::put_digits(out, after_sign, size, digits);
+    lent::put(out, after_digits, b",0\r\n");
+    LineAnswer {
+        code: 0,
+        wrote: after_digits + 4,
+    }
+}
+
+fn put_step(names: &[u8], step: Celsius, out: &mut [u8]) -> LineAnswer
+    requires { ⌜ length (now names) ≤ longestLine ⌝ }
+    ensures { λ r. ⌜ Placed 0 (readText (now (names .entry)) (signedDecimal (step .0))) (now (out .entry)) (now (out .exit)) r ⌝ }
+{
+    let size = whole::magnitude(step.0);
+    if whole::less(step.0, 0) {
+        return put_read(names, b"-", size, out);
+    }
+    put_read(names, b"", size, out)
+}
+
+// The names and a number, for a line that was refused.
+fn put_refused(names: &[u8], number: u8, out: &mut [u8]) -> LineAnswer
+    requires { ⌜ length (now names) ≤ longestLine ⌝ }
+    ensures { λ r. ⌜ Placed number (refusedText (now (names .entry)) number) (now (out .entry)) (now (out .exit)) r ⌝ }
+{
+    let digits = decimal::width(number as u64);
+    let after_names = names.len();
+    let after_digits = after_names + 1 + digits;
+    if out.len() < after_digits + 2 {
+        return LineAnswer { code: 11, wrote: 0 };
+    }
+    lent::put(out, 0, names);
+    lent::put(out, after_names, b",");
+    decimal::put_digits(out, after_names + 1, number as u64, digits);
+    lent::put(out, after_digits, b"\r\n");
+    LineAnswer {
+        code: number,
+        wrote: after_digits + 2,
+    }
+}
+
+fn answer_row(line: &[u8], row: Row, out: &mut [u8]) -> LineAnswer
+    requires { ⌜ (wellFormed (now line) ≡ true) × (row ≡ rowOf (now line)) ⌝ }
+    ensures { λ r. ⌜ AnsweredInto (now (line .entry)) (now (out .entry)) (now (out .exit)) r ⌝ }
+{
+    let names = row.prefix;
+    match reading::read(row.law, row.a, row.b, row.c, row.d, row.wal, row.r, row.r0) {
+        ReadingAnswer::Read(reading) => put_step(&line[..names], reading.step, out),
+        ReadingAnswer::Refused(why) => put_refused(&line[..names], why.number(), out),
+    }
+}
+
+// Answers one line, given without its CRLF, into a lent buffer: its first bytes, or 11 and no byte where it is too short.
+pub fn answer(line: &[u8], out: &mut [u8]) -> LineAnswer
+    ensures { λ r. ⌜ AnsweredInto (now (line .entry)) (now (out .entry)) (now (out .exit)) r ⌝ }
+{
+    match row::parse(line) {
+        Parsed::Row(row) => answer_row(line, row, out),
+        Parsed::IllFormed => lent::place(10, b"?,?,,10\r\n", out),
+    }
+}

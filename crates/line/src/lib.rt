@@ -1,0 +1,8 @@
+// The answer to one line of a list, written into a lent buffer.
+mod answering;
+mod decimal;
+mod lent;
+
+pub use answering::answer;
+pub use lent::LineAnswer;
+pub use lent::place;

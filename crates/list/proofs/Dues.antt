@@ -1,0 +1,103 @@
+-- What is due to lines: to some after others, and that it is one text, which is short.
+use mathlib.Core.Path.{_≡_, refl, sym, ap, ap₂, _∙_, subst}
+use mathlib.Core.List.{List, [], _∷_, _++_, append-assoc, append-nil}
+use Prim.Native.Nat.{ℕ, _+_, _≤_, _<_}
+use native.Mathlib.Omega.{arith}
+use lib.ListN.{length, length-append}
+use Rattle.whole.proofs.Choice.{if-cases, if-both}
+use Rattle.quantity.specs.Refusals.{numberOf}
+use Rattle.quantity.specs.declared.refusal.Refusal.the-variants.{BufferShort}
+use Rattle.line.specs.Lent.{room}
+use Rattle.list.specs.declared.state.Stage.{Stage}
+use Rattle.list.specs.declared.state.Stage.the-variants.{Header, Rows, Stopped}
+use Rattle.list.specs.Lists.{same, inputHeader}
+use Rattle.list.specs.Feeding.{Due, next, DueToAll, DueAtEnd}
+use Rattle.line.proofs.Unique.{one-answer, number-few, answers-fit}
+
+pub due-append : (g between later : Stage) (x y : List (List ℕ)) (t u : List ℕ) → DueToAll g x t between → DueToAll between y u later → DueToAll g (x ++ y) (t ++ u) later
+due-append g between later [] y t u (e, f) k = subst (λ (s : List ℕ). DueToAll g y (s ++ u) later) (sym e) (subst (λ (g′ : Stage). DueToAll g′ y u later) f k)
+due-append g between later (line ∷ x) y t u (n, first, rest, due, more, e) k =
+    (n, first, rest ++ u, due, due-append (next g line) between later x y rest u more k, ap (λ (s : List ℕ). s ++ u) e ∙ append-assoc first rest u)
+
+-- one more line
+pub due-more : (g between : Stage) (lines : List (List ℕ)) (line t u : List ℕ) (n : ℕ) → DueToAll g lines t between → Due between line n u → DueToAll g (lines ++ (line ∷ [])) (t ++ u) (next between line)
+due-more g between lines line t u n h due =
+    due-append g between (next between line) lines (line ∷ []) t u h (n, u, [], due, (refl, refl), sym (append-nil u))
+
+-- The part that is due to the first lines, and that to the others.
+pub record Parted (g later : Stage) (x y : List (List ℕ)) (text : List ℕ) : Type 0 where
+  pub between : Stage
+  pub first : List ℕ
+  pub second : List ℕ
+  pub due : DueToAll g x first between
+  pub more : DueToAll between y second later
+  pub both : text ≡ first ++ second
+
+pub due-parted : (g later : Stage) (x y : List (List ℕ)) (text : List ℕ) → DueToAll g (x ++ y) text later → Parted g later x y text
+due-parted g later [] y text d = record { between = g; first = []; second = text; due = (refl, refl); more = d; both = refl }
+due-parted g later (line ∷ x) y text (n, first, rest, due, more, e) =
+    let p = due-parted (next g line) later x y rest more in
+    record {
+      between = p .between;
+      first = first ++ p .first;
+      second = p .second;
+      due = (n, first, p .first, due, p .due, refl);
+      more = p .more;
+      both = e ∙ ap (λ (s : List ℕ). first ++ s) (p .both) ∙ sym (append-assoc first (p .first) (p .second));
+    }
+
+-- ---- one text, number and stage
+pub due-unique : (g : Stage) (line : List ℕ) (n n′ : ℕ) (t t′ : List ℕ) → Due g line n t → Due g line n′ t′ → (n ≡ n′) × (t ≡ t′)
+due-unique Header line n n′ t t′ h k =
+    if-both (same line inputHeader) h k (λ x y. (x .0 ∙ sym (y .0), x .1 ∙ sym (y .1))) (λ x y. (x .0 ∙ sym (y .0), x .1 ∙ sym (y .1)))
+due-unique Rows line n n′ t t′ h k = one-answer line n n′ t t′ h k
+due-unique Stopped line n n′ t t′ h k = (h .0 ∙ sym (k .0), h .1 ∙ sym (k .1))
+
+pub all-unique : (g : Stage) (lines : List (List ℕ)) (t t′ : List ℕ) (later later′ : Stage) → DueToAll g lines t later → DueToAll g lines t′ later′ → (t ≡ t′) × (later ≡ later′)
+all-unique g [] t t′ later later′ h k = (h .0 ∙ sym (k .0), h .1 ∙ sym (k .1))
+all-unique g (line ∷ lines) t t′ later later′ (n, first, rest, due, more, e) (n′, first′, rest′, due′, more′, e′) =
+    let one = due-unique g line n n′ first first′ due due′ in
+    let others = all-unique (next g line) lines rest rest′ later later′ more more′ in
+    (e ∙ ap₂ (λ (x : List ℕ) (y : List ℕ). x ++ y) (one .1) (others .0) ∙ sym e′, others .1)
+
+pub at-end-unique : (g : Stage) (line : List ℕ) (n n′ : ℕ) (t t′ : List ℕ) → DueAtEnd g line n t → DueAtEnd g line n′ t′ → (n ≡ n′) × (t ≡ t′)
+at-end-unique Header [] n n′ t t′ h k = (h .0 ∙ sym (k .0), h .1 ∙ sym (k .1))
+at-end-unique Rows [] n n′ t t′ h k = (h .0 ∙ sym (k .0), h .1 ∙ sym (k .1))
+at-end-unique Stopped [] n n′ t t′ h k = (h .0 ∙ sym (k .0), h .1 ∙ sym (k .1))
+at-end-unique Header (b ∷ s) n n′ t t′ h k = due-unique Header (b ∷ s) n n′ t t′ h k
+at-end-unique Rows (b ∷ s) n n′ t t′ h k = due-unique Rows (b ∷ s) n n′ t t′ h k
+at-end-unique Stopped (b ∷ s) n n′ t t′ h k = due-unique Stopped (b ∷ s) n n′ t t′ h k
+
+-- ---- a short text, and not the number of a short buffer
+pub record Small (n : ℕ) (t : List ℕ) : Type 0 where
+  pub number : n < numberOf BufferShort
+  pub text : length t ≤ room
+
+small : {n m : ℕ} {t u : List ℕ} → m < numberOf BufferShort → length u ≤ room → (n ≡ m) × (t ≡ u) → Small n t
+small h k (e, f) = record { number = rw e h; text = rw f k }
+
+pub due-small : (g : Stage) (line : List ℕ) (n : ℕ) (t : List ℕ) → Due g line n t → Small n t
+due-small Header line n t h = if-cases (same line inputHeader) h (small (omega arith) (omega arith)) (small (omega arith) (omega arith))
+due-small Rows line n t h = record { number = number-few line n t h; text = answers-fit line n t h }
+due-small Stopped line n t h = small (omega arith) (omega arith) h
+
+pub at-end-small : (g : Stage) (line : List ℕ) (n : ℕ) (t : List ℕ) → DueAtEnd g line n t → Small n t
+at-end-small Header [] n t h = small (omega arith) (omega arith) h
+at-end-small Rows [] n t h = small (omega arith) (omega arith) h
+at-end-small Stopped [] n t h = small (omega arith) (omega arith) h
+at-end-small Header (b ∷ s) n t h = due-small Header (b ∷ s) n t h
+at-end-small Rows (b ∷ s) n t h = due-small Rows (b ∷ s) n t h
+at-end-small Stopped (b ∷ s) n t h = due-small Stopped (b ∷ s) n t h
+
+-- What is due to the first lines and the next is within what is due to all.
+pub due-within : (g between later : Stage) (before others : List (List ℕ)) (line t u text : List ℕ) (n : ℕ)
+    → DueToAll g before t between → Due between line n u → DueToAll g (before ++ (line ∷ others)) text later → length t + length u ≤ length text
+due-within g between later before others line t u text n h k all =
+    let p = due-parted g later before (line ∷ others) text all in
+    let one = all-unique g before t (p .first) between (p .between) h (p .due) in
+    within p (one .0) (subst (λ (g′ : Stage). Due g′ line n u) (one .1) k) (p .more)
+  where
+    within : (p : Parted g later before (line ∷ others) text) → t ≡ p .first → Due (p .between) line n u → DueToAll (p .between) (line ∷ others) (p .second) later → length t + length u ≤ length text
+    within p e k (n′, u′, rest, due, more, f) =
+        let all : text ≡ t ++ (u ++ rest) = p .both ∙ ap₂ (λ (x : List ℕ) (y : List ℕ). x ++ y) (sym e) (f ∙ ap (λ (x : List ℕ). x ++ rest) (sym (due-unique (p .between) line n n′ u u′ k due .1))) in
+        rw (all, length-append t (u ++ rest), length-append u rest) (omega arith)

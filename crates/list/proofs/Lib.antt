@@ -1,0 +1,9 @@
+pub mod Lines
+pub mod Same
+pub mod Capped
+pub mod Scan
+pub mod Dues
+pub mod Unique
+pub mod Whole
+pub mod Feeds
+pub mod Values

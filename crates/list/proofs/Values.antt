@@ -1,0 +1,91 @@
+-- The scope document's own list, byte for byte, which the checker computes.
+use mathlib.Core.Path.{_≡_, refl}
+use mathlib.Core.Option.{some}
+use mathlib.Core.List.{List, [], _∷_, _++_}
+use native.Mathlib.Omega.{arith}
+use Prim.Native.Nat.{ℕ, _≤_}
+use lib.IntN.{ℤ, pos}
+use lib.Signed.{leZ-yes, ltZ-yes}
+use Rattle.whole.specs.Text.{ascii}
+use Rattle.polynomial.specs.Polynomial.{rounded}
+use Rattle.scale.specs.declared.law.Law.the-variants.{Curve, Scale}
+use Rattle.scale.specs.declared.subrange.Subrange.the-variants.{Ag, Zn}
+use Rattle.scale.specs.Deviation.{x, δ, keeps, plainDeviation}
+use Rattle.reference.specs.Reference.{working}
+use Rattle.curve.proofs.Values as curve
+use Rattle.certificate.specs.declared.certificate.Certificate.{Certificate}
+use Rattle.deviation.specs.Working.{hasDTerm, z, dTerm, deviation, Wr}
+use Rattle.reading.specs.Reading.{refused, ReadNamed}
+use Rattle.reading.proofs.Outcomes.{curve-reads}
+use Rattle.reading.proofs.Values.{card-3}
+use Rattle.scale.specs.Names.{spelled}
+use Rattle.line.specs.Decimal.{decimal}
+use Rattle.line.specs.Answer.{Answered}
+use Rattle.line.proofs.Decimals.{decimal-one, decimal-more}
+use Rattle.list.specs.Lists.{ListAnswered}
+
+read-F1 : ReadNamed (spelled "curve") (pos 0) (pos 0) (pos 0) (pos 0) 0 138_505_500_000 100_000_000_000 (record { code = 0; law = some Curve; step = pos 1_000_000 })
+read-F1 = curve-reads (record { law = Curve; a = pos 0; b = pos 0; c = pos 0; d = pos 0; wal = record { 0 = 0 } }) refl 1_385_055_000 (omega arith) (record { code = 0; step = pos 1_000_000 }) curve.card-7
+
+read-F2 : ReadNamed (spelled "ag") (pos 0) (pos 0) (pos 0) (pos 0) 3_376_008_600 69_539_313_500 25_000_000_000 (record { code = 0; law = some (Scale Ag); step = pos 4_810_000 })
+unfolding keeps x δ
+read-F2 = card-3
+
+read-F3 : ReadNamed (spelled "zn") (pos 0) (pos 0) (pos 0) (pos 0) 0 69_539_313_500 25_000_000_000 (refused 9)
+unfolding working rounded Wr deviation plainDeviation dTerm hasDTerm z x
+read-F3 = refl
+
+F1 : List ℕ
+F1 = ascii "F1,curve,138505500000,100000000000,0,0,0,0,0"
+
+F2 : List ℕ
+F2 = ascii "F2,ag,69539313500,25000000000,0,0,0,0,3376008600"
+
+F3 : List ℕ
+F3 = ascii "F3,zn,69539313500,25000000000,0,0,0,0,0"
+
+digits-of-F1 : decimal 1_000_000 ≡ ascii "1000000"
+digits-of-F1 = rw (decimal-more 1_000_000 (omega arith), decimal-more 100_000 (omega arith), decimal-more 10_000 (omega arith), decimal-more 1_000 (omega arith), decimal-more 100 (omega arith), decimal-more 10 (omega arith), decimal-one 1 (omega arith))
+
+digits-of-F2 : decimal 4_810_000 ≡ ascii "4810000"
+digits-of-F2 = rw (decimal-more 4_810_000 (omega arith), decimal-more 481_000 (omega arith), decimal-more 48_100 (omega arith), decimal-more 4_810 (omega arith), decimal-more 481 (omega arith), decimal-more 48 (omega arith), decimal-one 4 (omega arith))
+
+answer-F1 : Answered F1 0 (ascii "F1,curve,1000000,0\r\n")
+unfolding F1
+answer-F1 = (record { code = 0; law = some Curve; step = pos 1_000_000 }, read-F1, refl, rw (digits-of-F1, decimal-one 0 (omega arith)))
+
+answer-F2 : Answered F2 0 (ascii "F2,ag,4810000,0\r\n")
+unfolding F2
+answer-F2 = (record { code = 0; law = some (Scale Ag); step = pos 4_810_000 }, read-F2, refl, rw (digits-of-F2, decimal-one 0 (omega arith)))
+
+answer-F3 : Answered F3 9 (ascii "F3,zn,,9\r\n")
+unfolding F3
+answer-F3 = (refused 9, read-F3, refl, rw (decimal-one 9 (omega arith)))
+
+pub example : ListAnswered
+    (ascii "id,law,r,r0,a,b,c,d,wal\r\nF1,curve,138505500000,100000000000,0,0,0,0,0\r\nF2,ag,69539313500,25000000000,0,0,0,0,3376008600\r\nF3,zn,69539313500,25000000000,0,0,0,0,0\r\n")
+    (ascii "id,law,t,code\r\nF1,curve,1000000,0\r\nF2,ag,4810000,0\r\nF3,zn,,9\r\n")
+unfolding F1 F2 F3
+example = (
+  ascii "F1,curve,1000000,0\r\nF2,ag,4810000,0\r\nF3,zn,,9\r\n",
+  (
+    0,
+    ascii "F1,curve,1000000,0\r\n",
+    ascii "F2,ag,4810000,0\r\nF3,zn,,9\r\n",
+    answer-F1,
+    (0, ascii "F2,ag,4810000,0\r\n", ascii "F3,zn,,9\r\n", answer-F2, (9, ascii "F3,zn,,9\r\n", [], answer-F3, refl, refl), refl),
+    refl,
+  ),
+  refl,
+)
+
+-- no input at all, and a byte order mark before the header
+pub empty : ListAnswered [] (ascii "id,law,t,code\r\n?,?,,10\r\n")
+empty = refl
+
+pub marked : ListAnswered (239 ∷ 187 ∷ 191 ∷ ascii "id,law,r,r0,a,b,c,d,wal\r\n") (ascii "id,law,t,code\r\n?,?,,10\r\n")
+marked = refl
+
+-- the header may be the last line
+pub header-alone : ListAnswered (ascii "id,law,r,r0,a,b,c,d,wal") (ascii "id,law,t,code\r\n")
+header-alone = ([], refl, refl)

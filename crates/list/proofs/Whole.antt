@@ -1,0 +1,147 @@
+-- However a list is cut, all that is written is its answer; and a buffer that holds any answer line is enough.
+use mathlib.Core.Path.{_≡_, refl, sym, ap, ap₂, _∙_, subst}
+use mathlib.Core.Bool.{Bool, true, false}
+use mathlib.Core.List.{List, [], _∷_, _++_, append-assoc, append-nil}
+use Prim.Native.Nat.{ℕ}
+use native.Mathlib.Decide.{decLt}
+use native.Mathlib.Omega.{arith}
+use lib.Dec.{leb}
+use lib.ListN.{length, take, drop, take-append-drop}
+use lib.Seq.{take-append-seam}
+use borrow.Author.Tests.{le-leb}
+use Rattle.whole.specs.Choice.{if_then_else_}
+use Rattle.whole.proofs.Choice.{if-cases}
+use Rattle.quantity.specs.Refusals.{numberOf}
+use Rattle.quantity.specs.declared.refusal.Refusal.the-variants.{IllFormed, BufferShort}
+use Rattle.line.specs.declared.lent.LineAnswer.{LineAnswer}
+use Rattle.line.specs.Lent.{Placed}
+use Rattle.list.specs.declared.state.Stage.{Stage}
+use Rattle.list.specs.declared.state.Stage.the-variants.{Header, Rows, Stopped}
+use Rattle.list.specs.declared.state.State.{State}
+use Rattle.list.specs.Lines.{allButLast, ended, begun, lastLine}
+use Rattle.list.specs.Lists.{same, inputHeader, outputHeader, wrongHeader, RowsAnswered, HeaderAnswered, LinesAnswered, ListAnswered}
+use Rattle.list.specs.Feeding.{Due, next, DueToAll, DueAtEnd, capped, lineOf, Run, finish, feed}
+use Rattle.list.specs.Promised.{EveryCutting, GoesOn, EndFits}
+use Rattle.list.proofs.Lines.{ended-append, begun-append}
+use Rattle.list.proofs.Capped.{capped-alike, alike-begun, alike-at-end, capped-all}
+use Rattle.list.proofs.Dues.{due-append, due-small, at-end-small}
+
+-- What is due to all lines of an input, from a stage and what there is of a line on.
+pub record Said (g : Stage) (line input output : List ℕ) : Type 0 where
+  pub later : Stage
+  pub text : List ℕ
+  pub number : ℕ
+  pub last : List ℕ
+  pub due : DueToAll g (ended line input) text later
+  pub at-end : DueAtEnd later (begun line input) number last
+  pub both : output ≡ text ++ last
+
+-- after the first part of the input, of whose last line no more is held than it takes
+said-after : (g between : Stage) (line part rest text output : List ℕ) → DueToAll g (ended line part) text between → Said between (capped (begun line part)) rest output → Said g line (part ++ rest) (text ++ output)
+said-after g between line part rest text output d s = record {
+  later = s .later;
+  text = text ++ s .text;
+  number = s .number;
+  last = s .last;
+  due = rw (ended-append line part rest) (due-append g between (s .later) (ended line part) (ended (begun line part) rest) text (s .text) d (capped-all (begun line part) rest between (s .later) (s .text) (s .due)));
+  at-end = rw (begun-append line part rest) (alike-at-end (alike-begun (capped-alike (begun line part)) rest) (s .later) (s .number) (s .last) (s .at-end));
+  both = ap (λ (x : List ℕ). text ++ x) (s .both) ∙ sym (append-assoc text (s .text) (s .last));
+}
+
+placed-text : (n : ℕ) (t out out′ : List ℕ) (x : LineAnswer) → (x .code ≡ numberOf BufferShort → ⊥) → Placed n t out out′ x → take (x .wrote) out′ ≡ t
+placed-text n t out out′ x not-short h =
+    if-cases (leb (length t) (length out)) h
+    (λ p. ap₂ take (ap (λ (x : LineAnswer). x .wrote) (p .0)) (p .1) ∙ take-append-seam t (drop (length t) out))
+    (λ p. absurd (not-short (ap (λ (x : LineAnswer). x .code) (p .0))))
+
+run-says : {st : State} {input output : List ℕ} → Run st input output → Said (st .stage) (lineOf st) input output
+run-says {st} (finish out out′ x (n, t, due, placed) not-short) = record {
+  later = st .stage;
+  text = [];
+  number = n;
+  last = t;
+  due = (refl, refl);
+  at-end = due;
+  both = placed-text n t out out′ x not-short placed;
+}
+run-says {st} (feed {output = output} chunk more out out′ x f run) =
+    let rest : List ℕ = drop (x .used) chunk ++ more in
+    let wrote : take (x .wrote) out′ ≡ f .text = ap₂ take (f .wrote) (f .written) ∙ take-append-seam (f .text) (drop (length (f .text)) out) in
+    let whole : take (x .used) chunk ++ rest ≡ chunk ++ more = sym (append-assoc (take (x .used) chunk) (drop (x .used) chunk) more) ∙ ap (λ (s : List ℕ). s ++ more) (take-append-drop (x .used) chunk) in
+    let later = subst (λ (l : List ℕ). Said (x .state .stage) l rest output) (f .held) (run-says run) in
+    let said = said-after (st .stage) (x .state .stage) (lineOf st) (take (x .used) chunk) rest (f .text) output (f .due) later in
+    subst (λ (s : List ℕ). Said (st .stage) (lineOf st) s (take (x .wrote) out′ ++ output)) whole (subst (λ (t : List ℕ). Said (st .stage) (lineOf st) (take (x .used) chunk ++ rest) (t ++ output)) (sym wrote) said)
+
+-- ---- what was due is the answer to the list
+-- to rows, the last of which may be cut short
+rows-said : (ls : List (List ℕ)) (line text last : List ℕ) (n : ℕ) (later : Stage) → DueToAll Rows ls text later → DueAtEnd later line n last → RowsAnswered (ls ++ lastLine line) (text ++ last)
+rows-said [] line text last n later (e, f) k =
+    rw e (ending line (subst (λ (g : Stage). DueAtEnd g line n last) f k))
+  where
+    ending : (line : List ℕ) → DueAtEnd Rows line n last → RowsAnswered (lastLine line) last
+    ending [] (e, f) = f
+    ending (b ∷ s) h = (n, last, [], h, refl, sym (append-nil last))
+rows-said (row ∷ ls) line text last n later (m, first, rest, due, more, e) k =
+    (m, first, rest ++ last, due, rows-said ls line rest last n later more k, ap (λ (x : List ℕ). x ++ last) e ∙ append-assoc first rest last)
+
+-- nothing after a wrong header
+nothing-said : (ls : List (List ℕ)) (line text last : List ℕ) (n : ℕ) (later : Stage) → DueToAll Stopped ls text later → DueAtEnd later line n last → text ++ last ≡ []
+nothing-said [] line text last n later (e, f) k =
+    rw e (ending line (subst (λ (g : Stage). DueAtEnd g line n last) f k))
+  where
+    ending : (line : List ℕ) → DueAtEnd Stopped line n last → last ≡ []
+    ending [] (e, f) = f
+    ending (b ∷ s) (e, f) = f
+nothing-said (row ∷ ls) line text last n later (m, first, rest, due, more, e) k =
+    ap (λ (x : List ℕ). x ++ last) (e ∙ ap (λ (x : List ℕ). x ++ rest) (due .1)) ∙ nothing-said ls line rest last n later more k
+
+header-said : (header text last : List ℕ) (ls : List (List ℕ)) (line first rest : List ℕ) (m n : ℕ) (later : Stage) → Due Header header m first → DueToAll (next Header header) ls rest later
+    → DueAtEnd later line n last → text ≡ first ++ rest → LinesAnswered (header ∷ (ls ++ lastLine line)) (text ++ last)
+header-said header text last ls line first rest m n later due more k e =
+    by (same header inputHeader) due more
+  where
+    all : (start : List ℕ) → first ≡ start → text ++ last ≡ start ++ (rest ++ last)
+    all start f = ap (λ (x : List ℕ). x ++ last) (e ∙ ap (λ (x : List ℕ). x ++ rest) f) ∙ append-assoc start rest last
+
+    by : (t : Bool) → (if t then (m ≡ 0) × (first ≡ outputHeader) else (m ≡ numberOf IllFormed) × (first ≡ wrongHeader)) → DueToAll (if t then Rows else Stopped) ls rest later
+        → if t then HeaderAnswered (ls ++ lastLine line) (text ++ last) else text ++ last ≡ wrongHeader
+    by true due more = (rest ++ last, rows-said ls line rest last n later more k, all outputHeader (due .1))
+    by false due more = all wrongHeader (due .1) ∙ ap (λ (x : List ℕ). wrongHeader ++ x) (nothing-said ls line rest last n later more k) ∙ append-nil wrongHeader
+
+lines-said : (ls : List (List ℕ)) (line text last : List ℕ) (n : ℕ) (later : Stage) → DueToAll Header ls text later → DueAtEnd later line n last → LinesAnswered (ls ++ lastLine line) (text ++ last)
+lines-said [] line text last n later (e, f) k = rw e (ending line (subst (λ (g : Stage). DueAtEnd g line n last) f k))
+  where
+    ending : (line : List ℕ) → DueAtEnd Header line n last → LinesAnswered (lastLine line) last
+    ending [] (e, f) = f
+    ending (b ∷ s) h = by (same (b ∷ s) inputHeader) h
+      where
+        by : (t : Bool) → (if t then (n ≡ 0) × (last ≡ outputHeader) else (n ≡ numberOf IllFormed) × (last ≡ wrongHeader)) → if t then HeaderAnswered [] last else last ≡ wrongHeader
+        by true (e, f) = ([], refl, f ∙ sym (append-nil outputHeader))
+        by false (e, f) = f
+lines-said (header ∷ ls) line text last n later (m, first, rest, due, more, e) k = header-said header text last ls line first rest m n later due more k e
+
+pub every-cutting : EveryCutting
+every-cutting st input output (count, stage) run =
+    let said = subst (λ (l : List ℕ). Said (st .stage) l input output) (ap (λ (n : ℕ). take n (st .held)) count) (run-says run) in
+    let s = subst (λ (g : Stage). Said g [] input output) stage said in
+    subst (ListAnswered input) (sym (s .both)) (lines-said (ended [] input) (begun [] input) (s .text) (s .last) (s .number) (s .later) (s .due) (s .at-end))
+
+-- ---- buffers
+pub goes-on : GoesOn
+goes-on st chunk out out′ x f enough some =
+    elim (decLt 0 (x .used)) [
+      | yes h ↦ h
+      | no h ↦
+          let none : x .used ≡ 0 = omega (arith, h) in
+          let full = f .full (omega arith) in
+          let nothing : DueToAll (st .stage) [] (f .text) (x .state .stage) = subst (λ (n : ℕ). DueToAll (st .stage) (ended (lineOf st) (take n chunk)) (f .text) (x .state .stage)) none (f .due) in
+          let wrote : x .wrote ≡ 0 = f .wrote ∙ ap length (nothing .0) in
+          absurd (omega (arith, wrote, full .no-room, due-small (x .state .stage) (allButLast (lineOf (x .state))) (full .number) (full .text) (full .due) .text))
+    ]
+
+pub end-fits : EndFits
+end-fits st out out′ x (n, t, due, placed) enough e =
+    let small = at-end-small (st .stage) (lineOf st) n t due in
+    let written : (x ≡ record { code = n; wrote = length t }) × (out′ ≡ t ++ drop (length t) out) = rw (le-leb (length t) (length out) (omega (arith, small .text))) at placed in
+    let code : x .code ≡ n = ap (λ (x : LineAnswer). x .code) (written .0) in
+    omega (arith, small .number)

@@ -1,0 +1,54 @@
+use Rattle.list.specs.Feeding.{EndedWith}
+use Rattle.list.specs.Lists.{wrongHeader}
+use Rattle.list.specs.declared.state.Stage.{Stage}
+use Rattle.line.proofs.Placing.{placed}
+use Prim.Native.Nat.{zero-le}
+use mathlib.Core.List.{[]}
+use native.Mathlib.Omega.{arith}
+use mathlib.Core.Path.{_≡_, refl, sym, ap, _∙_, subst}
+use borrow.Author.Needs.{needs}
+use Rattle.list.proofs.feeding.nothing_begun.Statement.{statement}
+use Rattle.list.proofs.feeding.nothing_begun.Tie as tie
+
+enum-told : tie.Need-enum-told
+enum-told c = search needs
+
+wrong-header-requires : tie.Need-wrong-header-requires
+wrong-header-requires c κs = search needs
+
+enum-told-2 : tie.Need-enum-told-2
+enum-told-2 c = search needs
+
+enum-told-3 : tie.Need-enum-told-3
+enum-told-3 c = search needs
+
+same-length : tie.Need-same-length
+same-length c = search needs
+
+returns : tie.Need-returns
+returns c =
+    subst (λ (g : Stage). EndedWith g [] (c .before .before .before .before .before .before .before .args .out .now) (c .before .before .wrong-header .last .0) (c .before .before .wrong-header .result)) (sym (c .before .before .before .before .enum-told .given .1))
+    (10, wrongHeader, (refl, refl), c .before .before .wrong-header .ensures)
+
+returns-2 : tie.Need-returns-2
+returns-2 c =
+    subst (λ (g : Stage). EndedWith g [] (c .before .before .before .args .out .now) (c .before .before .before .args .out .now) (record { code = 0; wrote = 0 })) (sym (c .enum-told2 .given .1))
+    (0, [], (refl, refl), placed 0 [] (c .before .before .before .args .out .now) (c .before .before .before .args .out .now) 0 refl zero-le refl)
+
+returns-3 : tie.Need-returns-3
+returns-3 c =
+    subst (λ (g : Stage). EndedWith g [] (c .before .before .before .args .out .now) (c .before .before .before .args .out .now) (record { code = 0; wrote = 0 })) (sym (c .enum-told3 .given .1))
+    (0, [], (refl, refl), placed 0 [] (c .before .before .before .args .out .now) (c .before .before .before .args .out .now) 0 refl zero-le refl)
+
+pub nothing-begun-spec : {M : Type 1} → statement M
+nothing-begun-spec =
+    tie.close
+    (tie.spec
+    enum-told
+    wrong-header-requires
+    enum-told-2
+    enum-told-3
+    same-length
+    returns
+    returns-2
+    returns-3)

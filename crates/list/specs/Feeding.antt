@@ -1,0 +1,94 @@
+-- A list that comes in chunks.
+use mathlib.Core.Path.{_≡_}
+use mathlib.Core.Bool.{true}
+use mathlib.Core.List.{List, [], _∷_, _++_}
+use Prim.Native.Nat.{ℕ, _+_, _-_, _≤_, _<_}
+use lib.Dec.{leb}
+use lib.ListN.{length, getD, take, drop}
+use Rattle.whole.specs.Choice.{if_then_else_}
+use Rattle.quantity.specs.Refusals.{numberOf}
+use Rattle.quantity.specs.declared.refusal.Refusal.the-variants.{IllFormed, BufferShort}
+use Rattle.line.specs.declared.lent.LineAnswer.{LineAnswer}
+use Rattle.line.specs.Answer.{Answered}
+use Rattle.line.specs.Lent.{Placed}
+use Rattle.list.specs.declared.state.Stage.{Stage}
+use Rattle.list.specs.declared.state.Stage.the-variants.{Header, Rows, Stopped}
+use Rattle.list.specs.declared.state.State.{State}
+use Rattle.list.specs.declared.feeding.Fed.{Fed}
+use Rattle.list.specs.Lines.{lastByte, allButLast, endsLine, ended, begun}
+use Rattle.list.specs.Lists.{same, inputHeader, outputHeader, wrongHeader}
+
+-- The number and the text that are due to a line: as the header, after the header, and after a wrong one, where nothing is read any more.
+abbrev pub Due : Stage → List ℕ → ℕ → List ℕ → Type 0
+Due Header line number text =
+    if same line inputHeader then (number ≡ 0) × (text ≡ outputHeader)
+    else (number ≡ numberOf IllFormed) × (text ≡ wrongHeader)
+Due Rows line number text = Answered line number text
+Due Stopped line number text = (number ≡ 0) × (text ≡ [])
+
+-- What comes after a line.
+abbrev pub next : Stage → List ℕ → Stage
+next Header line = if same line inputHeader then Rows else Stopped
+next Rows line = Rows
+next Stopped line = Stopped
+
+-- The text that is due to lines one after the other, and the stage after them.
+abbrev pub DueToAll : Stage → List (List ℕ) → List ℕ → Stage → Type 0
+DueToAll stage [] text later = (text ≡ []) × (later ≡ stage)
+DueToAll stage (line ∷ others) text later =
+    (number : ℕ) × (first : List ℕ) × (rest : List ℕ) × Due stage line number first × DueToAll (next stage line) others rest later × (text ≡ first ++ rest)
+
+-- What is due where the input ends. What there is of a line is the last line. Nothing is no line; before the header that is a wrong header.
+abbrev pub DueAtEnd : Stage → List ℕ → ℕ → List ℕ → Type 0
+DueAtEnd Header [] number text = (number ≡ numberOf IllFormed) × (text ≡ wrongHeader)
+DueAtEnd Rows [] number text = (number ≡ 0) × (text ≡ [])
+DueAtEnd Stopped [] number text = (number ≡ 0) × (text ≡ [])
+DueAtEnd Header (b ∷ s) number text = Due Header (b ∷ s) number text
+DueAtEnd Rows (b ∷ s) number text = Due Rows (b ∷ s) number text
+DueAtEnd Stopped (b ∷ s) number text = Due Stopped (b ∷ s) number text
+
+-- Two bytes more than the longest line, so that all but the last byte held of a longer one is still longer than a line may be.
+abbrev pub mostHeld : ℕ
+mostHeld = 202
+
+-- What is held of what there is of a line: of more than that, as many bytes less one, and the last byte, which tells whether a LF ends the line.
+abbrev pub capped : List ℕ → List ℕ
+capped line = if leb (length line) mostHeld then line else take (mostHeld - 1) line ++ (lastByte line ∷ [])
+
+abbrev pub lineOf : State → List ℕ
+lineOf st = take (st .count) (st .held)
+
+-- Why bytes of a chunk are left: the next byte ends a line whose answer the buffer has no room for.
+pub record Full (st : State) (b wrote bytes : ℕ) : Type 0 where
+  pub ends : endsLine (lineOf st) b ≡ true
+  pub number : ℕ
+  pub text : List ℕ
+  pub due : Due (st .stage) (allButLast (lineOf st)) number text
+  pub no-room : bytes < wrote + length text
+
+-- What feeding a chunk promises, `out` being the lent buffer before and `out′` after. So many bytes of the chunk are used. What is due to the lines that end
+-- within them is written at the start of the buffer, and its other bytes stay. The new state has the stage after those lines and holds, as far as it is
+-- held, what there is of the next. All bytes are used unless the buffer is full.
+pub record FedAs (st : State) (chunk out out′ : List ℕ) (x : Fed) : Type 0 where
+  pub within : x .used ≤ length chunk
+  pub text : List ℕ
+  pub due : DueToAll (st .stage) (ended (lineOf st) (take (x .used) chunk)) text (x .state .stage)
+  pub wrote : x .wrote ≡ length text
+  pub fits : length text ≤ length out
+  pub written : out′ ≡ text ++ drop (length text) out
+  pub held : lineOf (x .state) ≡ capped (begun (lineOf st) (take (x .used) chunk))
+  pub full : x .used < length chunk → Full (x .state) (getD chunk (x .used) 0) (x .wrote) (length out)
+
+-- What ending the input promises: what is still due is written, with its number, or 11 and every byte stays.
+abbrev pub EndedWith : Stage → List ℕ → List ℕ → List ℕ → LineAnswer → Type 0
+EndedWith stage line out out′ x = (number : ℕ) × (text : List ℕ) × DueAtEnd stage line number text × Placed number text out out′ x
+
+abbrev pub EndedAs : State → List ℕ → List ℕ → LineAnswer → Type 0
+EndedAs st = EndedWith (st .stage) (lineOf st)
+
+-- A run from a state over the input to come, with all that it writes: chunks of any size are fed with buffers of any size, bytes that a feeding did not use are
+-- fed again, and at the end of the input what is still due is written.
+pub data Run : State → List ℕ → List ℕ → Type 0 where
+  finish : {st : State} (out out′ : List ℕ) (x : LineAnswer) → EndedAs st out out′ x → (x .code ≡ numberOf BufferShort → ⊥) → Run st [] (take (x .wrote) out′)
+  feed : {st : State} {output : List ℕ} (chunk more out out′ : List ℕ) (x : Fed) → FedAs st chunk out out′ x
+      → Run (x .state) (drop (x .used) chunk ++ more) output → Run st (chunk ++ more) (take (x .wrote) out′ ++ output)

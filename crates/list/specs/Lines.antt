@@ -1,0 +1,37 @@
+-- The lines of an input: RFC 4180, each ends with CRLF, and the last may lack it.
+use mathlib.Core.Bool.{Bool, _&&_}
+use mathlib.Core.List.{List, [], _∷_, _++_}
+use Prim.Native.Nat.{ℕ, _-_}
+use Prim.Native.Char.{code}
+use lib.Dec.{eqb}
+use lib.ListN.{length, getD, take}
+use Rattle.whole.specs.Choice.{if_then_else_}
+
+-- The last byte, and all but the last.
+abbrev pub lastByte : List ℕ → ℕ
+lastByte s = getD s (length s - 1) 0
+
+abbrev pub allButLast : List ℕ → List ℕ
+allButLast s = take (length s - 1) s
+
+-- The byte ends the line whose bytes so far are these: LF after CR. Alone either is a byte of its line.
+abbrev pub endsLine : List ℕ → ℕ → Bool
+endsLine line b = eqb b (code "\n") && eqb (lastByte line) (code "\r")
+
+-- The lines that end within these bytes, where `line` is what there is of the first.
+abbrev pub ended : List ℕ → List ℕ → List (List ℕ)
+ended line [] = []
+ended line (b ∷ s) = if endsLine line b then allButLast line ∷ ended [] s else ended (line ++ (b ∷ [])) s
+
+-- What there is of a line after them.
+abbrev pub begun : List ℕ → List ℕ → List ℕ
+begun line [] = line
+begun line (b ∷ s) = if endsLine line b then begun [] s else begun (line ++ (b ∷ [])) s
+
+-- At the end of the input what there is of a line is the last line; nothing is no line.
+abbrev pub lastLine : List ℕ → List (List ℕ)
+lastLine [] = []
+lastLine (b ∷ s) = (b ∷ s) ∷ []
+
+abbrev pub lines : List ℕ → List (List ℕ)
+lines input = ended [] input ++ lastLine (begun [] input)

@@ -1,0 +1,47 @@
+-- What is promised of lists besides each call's own outcome.
+use mathlib.Core.Path.{_≡_}
+use mathlib.Core.List.{List}
+use Prim.Native.Nat.{ℕ, _≤_, _<_}
+use lib.ListN.{length}
+use Rattle.quantity.specs.Refusals.{numberOf}
+use Rattle.quantity.specs.declared.refusal.Refusal.the-variants.{BufferShort}
+use Rattle.line.specs.declared.lent.LineAnswer.{LineAnswer}
+use Rattle.line.specs.Lent.{room}
+use Rattle.list.specs.declared.state.Stage.the-variants.{Header}
+use Rattle.list.specs.declared.state.State.{State}
+use Rattle.list.specs.declared.feeding.Fed.{Fed}
+use Rattle.list.specs.Lists.{ListAnswered}
+use Rattle.list.specs.Feeding.{lineOf, FedAs, EndedAs, Run}
+
+-- The state before the first byte.
+abbrev pub Start : State → Type 0
+Start st = (st .count ≡ 0) × (st .stage ≡ Header)
+
+-- However the input is cut and whatever the buffers: all that is written is the answer to the list.
+abbrev pub EveryCutting : Type 0
+EveryCutting = (st : State) (input output : List ℕ) → Start st → Run st input output → ListAnswered input output
+
+-- A list has one answer.
+abbrev pub OneList : Type 0
+OneList = (input output output′ : List ℕ) → ListAnswered input output → ListAnswered input output′ → output ≡ output′
+
+-- Two outcomes that feeding allows are one: bytes, counts, stage, and what is held of a line.
+pub record SameFed (out′ out″ : List ℕ) (x y : Fed) : Type 0 where
+  pub bytes : out′ ≡ out″
+  pub used : x .used ≡ y .used
+  pub wrote : x .wrote ≡ y .wrote
+  pub stage : x .state .stage ≡ y .state .stage
+  pub held : lineOf (x .state) ≡ lineOf (y .state)
+
+abbrev pub OneFeeding : Type 0
+OneFeeding = (st : State) (chunk out out′ out″ : List ℕ) (x y : Fed) → FedAs st chunk out out′ x → FedAs st chunk out out″ y → SameFed out′ out″ x y
+
+abbrev pub OneEnding : Type 0
+OneEnding = (st : State) (out out′ out″ : List ℕ) (x y : LineAnswer) → EndedAs st out out′ x → EndedAs st out out″ y → (out′ ≡ out″) × (x ≡ y)
+
+-- A buffer that holds any answer line is enough: a chunk goes on, and the end is written.
+abbrev pub GoesOn : Type 0
+GoesOn = (st : State) (chunk out out′ : List ℕ) (x : Fed) → FedAs st chunk out out′ x → room ≤ length out → 0 < length chunk → 0 < x .used
+
+abbrev pub EndFits : Type 0
+EndFits = (st : State) (out out′ : List ℕ) (x : LineAnswer) → EndedAs st out out′ x → room ≤ length out → x .code ≡ numberOf BufferShort → ⊥

@@ -1,0 +1,26 @@
+ghost use Rattle.list.specs.Promised.{Start};
+
+// What is due to the next line: it is the header, it is a row, or nothing is read any more.
+pub enum Stage {
+    Header,
+    Rows,
+    Stopped,
+}
+
+// What is carried from chunk to chunk: what there is of a line, in the first `count` bytes, and the stage. A `count` past the array is its length.
+pub struct State {
+    pub held: [u8; 202],
+    pub count: usize,
+    pub stage: Stage,
+}
+
+// Before the first byte.
+pub fn start() -> State
+    ensures { λ r. ⌜ Start r ⌝ }
+{
+    State {
+        held: [0u8; 202],
+        count: 0,
+        stage: Stage::Header,
+    }
+}

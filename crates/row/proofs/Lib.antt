@@ -1,0 +1,6 @@
+pub mod Spans
+pub mod Digits
+pub mod Fields
+pub mod Offsets
+pub mod Scan
+pub mod Joined

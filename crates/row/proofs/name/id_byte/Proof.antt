@@ -1,0 +1,21 @@
+use native.Mathlib.Omega.{arith}
+use mathlib.Core.Path.{_≡_, refl, sym, ap, _∙_}
+use borrow.Author.Tests.{le-leb, lt-leb, lt-ltb, le-ltb, eq-eqb, ne-eqb}
+use borrow.Author.Needs.{needs}
+use Rattle.row.proofs.name.id_byte.Statement.{statement}
+use Rattle.row.proofs.name.id_byte.Tie as tie
+
+between-requires : tie.Need-between-requires
+between-requires c κs = search needs
+
+between-requires-2 : tie.Need-between-requires-2
+between-requires-2 c κs = search needs
+
+between-requires-3 : tie.Need-between-requires-3
+between-requires-3 c κs = search needs
+
+returns : tie.Need-returns
+returns c = rw (c .before .before .between .ensures, c .before .between2 .ensures, c .between3 .ensures)
+
+pub id-byte-spec : {M : Type 1} → statement M
+id-byte-spec = tie.close (tie.spec between-requires between-requires-2 between-requires-3 returns)

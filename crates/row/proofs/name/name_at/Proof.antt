@@ -1,0 +1,56 @@
+use Rattle.row.specs.Rows.{isLaw}
+use Rattle.scale.specs.Names.{nameOf}
+use Rattle.row.proofs.Offsets.{next-most, part-is, scanned-from, scanned-past}
+use Rattle.row.specs.Scanned.{scannedIn}
+use lib.ListN.{length-drop}
+use lib.ListN.{length, getD, take, drop}
+use Prim.Native.Nat.{ℕ, _+_, _-_, _*_, _^_, _≤_, _<_}
+use native.Mathlib.Omega.{arith}
+use mathlib.Core.Path.{_≡_, refl, sym, ap, _∙_}
+use borrow.Author.Needs.{needs}
+use Rattle.row.proofs.name.name_at.Statement.{statement}
+use Rattle.row.proofs.name.name_at.Tie as tie
+
+sub-name-in : tie.Need-sub-name-in
+sub-name-in c = search needs
+
+part-name-in-start : tie.Need-part-name-in-start
+part-name-in-start c = search needs
+
+part-name-in-end : tie.Need-part-name-in-end
+part-name-in-end c = search needs
+
+name-in-requires : tie.Need-name-in-requires
+name-in-requires c κs = search needs
+
+add-t7 : tie.Need-add-t7
+add-t7 c =
+    let line = c .before .before .before .before .before .args .line .now in
+    let from = c .before .before .before .before .before .args .from in
+    let said : c .before .name-in .result .next ≤ length (drop from line) + 2 = rw (c .before .name-in .ensures, part-is line from) (next-most isLaw (drop from line)) in
+    omega (arith, said, length-drop from line, c .before .before .before .if1 .taken, c .before .before .before .before .before .pre)
+
+returns : tie.Need-returns
+returns c =
+    let line = c .before .before .before .before .before .args .line .now in
+    let from = c .before .before .before .before .before .args .from in
+    scanned-from isLaw nameOf line from (c .before .name-in .result) (c .before .before .before .if1 .taken) (c .before .name-in .ensures ∙ ap (scannedIn isLaw nameOf) (part-is line from))
+
+broken-requires : tie.Need-broken-requires
+broken-requires c κs = search needs
+
+returns-2 : tie.Need-returns-2
+returns-2 c = c .broken .ensures ∙ scanned-past isLaw nameOf (c .before .before .before .args .line .now) (c .before .before .before .args .from) (c .before .if1 .left)
+
+pub name-at-spec : {M : Type 1} → statement M
+name-at-spec =
+    tie.close
+    (tie.spec
+    sub-name-in
+    part-name-in-start
+    part-name-in-end
+    name-in-requires
+    add-t7
+    returns
+    broken-requires
+    returns-2)

@@ -1,0 +1,24 @@
+use native.Mathlib.Omega.{arith}
+use mathlib.Core.Path.{_≡_, refl, sym, ap, _∙_}
+use borrow.Author.Tests.{not-true, not-false}
+use borrow.Author.Needs.{needs}
+use Rattle.row.proofs.name.name_ended.Statement.{statement}
+use Rattle.row.proofs.name.name_ended.Tie as tie
+
+closes-requires : tie.Need-closes-requires
+closes-requires c κs = search needs
+
+add-t5 : tie.Need-add-t5
+add-t5 c = search needs
+
+returns : tie.Need-returns
+returns c = rw (sym (c .before .closes .ensures) ∙ c .if1 .taken)
+
+broken-requires : tie.Need-broken-requires
+broken-requires c κs = search needs
+
+returns-2 : tie.Need-returns-2
+returns-2 c = rw (sym (c .before .before .closes .ensures) ∙ c .before .if1 .left) (c .broken .ensures)
+
+pub name-ended-spec : {M : Type 1} → statement M
+name-ended-spec = tie.close (tie.spec closes-requires add-t5 returns broken-requires returns-2)

@@ -1,0 +1,15 @@
+use native.Mathlib.Omega.{arith}
+use mathlib.Core.Path.{_≡_, refl, sym, ap, _∙_}
+use borrow.Author.Tests.{le-leb, lt-leb, lt-ltb, le-ltb, eq-eqb, ne-eqb}
+use borrow.Author.Needs.{needs}
+use Rattle.row.proofs.number.no_signed.Statement.{statement}
+use Rattle.row.proofs.number.no_signed.Tie as tie
+
+no-field-requires : tie.Need-no-field-requires
+no-field-requires c κs = search needs
+
+returns : tie.Need-returns
+returns c = rw (c .no-field .ensures)
+
+pub no-signed-spec : {M : Type 1} → statement M
+no-signed-spec = tie.close (tie.spec no-field-requires returns)

@@ -1,0 +1,55 @@
+use Rattle.row.specs.Numbers.{isNumber, valueOf}
+use Rattle.row.proofs.Offsets.{next-most, part-is, scanned-from, scanned-past}
+use Rattle.row.specs.Scanned.{scannedIn}
+use lib.ListN.{length-drop}
+use lib.ListN.{length, getD, take, drop}
+use Prim.Native.Nat.{ℕ, _+_, _-_, _*_, _^_, _≤_, _<_}
+use native.Mathlib.Omega.{arith}
+use mathlib.Core.Path.{_≡_, refl, sym, ap, _∙_}
+use borrow.Author.Needs.{needs}
+use Rattle.row.proofs.number.number_at.Statement.{statement}
+use Rattle.row.proofs.number.number_at.Tie as tie
+
+sub-number-in : tie.Need-sub-number-in
+sub-number-in c = search needs
+
+part-number-in-start : tie.Need-part-number-in-start
+part-number-in-start c = search needs
+
+part-number-in-end : tie.Need-part-number-in-end
+part-number-in-end c = search needs
+
+number-in-requires : tie.Need-number-in-requires
+number-in-requires c κs = search needs
+
+add-t7 : tie.Need-add-t7
+add-t7 c =
+    let line = c .before .before .before .before .before .args .line .now in
+    let from = c .before .before .before .before .before .args .from in
+    let said : c .before .number-in .result .next ≤ length (drop from line) + 2 = rw (c .before .number-in .ensures, part-is line from) (next-most isNumber (drop from line)) in
+    omega (arith, said, length-drop from line, c .before .before .before .if1 .taken, c .before .before .before .before .before .pre)
+
+returns : tie.Need-returns
+returns c =
+    let line = c .before .before .before .before .before .args .line .now in
+    let from = c .before .before .before .before .before .args .from in
+    scanned-from isNumber valueOf line from (c .before .number-in .result) (c .before .before .before .if1 .taken) (c .before .number-in .ensures ∙ ap (scannedIn isNumber valueOf) (part-is line from))
+
+broken-requires : tie.Need-broken-requires
+broken-requires c κs = search needs
+
+returns-2 : tie.Need-returns-2
+returns-2 c = c .broken .ensures ∙ scanned-past isNumber valueOf (c .before .before .before .args .line .now) (c .before .before .before .args .from) (c .before .if1 .left)
+
+pub number-at-spec : {M : Type 1} → statement M
+number-at-spec =
+    tie.close
+    (tie.spec
+    sub-number-in
+    part-number-in-start
+    part-number-in-end
+    number-in-requires
+    add-t7
+    returns
+    broken-requires
+    returns-2)

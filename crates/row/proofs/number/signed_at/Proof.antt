@@ -1,0 +1,60 @@
+use mir.Facts.{toZ-ofZ}
+use mir.Syntax.{w64}
+use lib.IntN.{ℤ}
+use Rattle.row.proofs.Offsets.{next-most, part-is, signed-from, signed-past}
+use Rattle.row.specs.Scanned.{signedIn}
+use Rattle.row.specs.Numbers.{isSigned}
+use mir.Val.{SFits}
+use lib.ListN.{length-drop}
+use lib.ListN.{length, getD, take, drop}
+use Prim.Native.Nat.{ℕ, _+_, _-_, _*_, _^_, _≤_, _<_}
+use native.Mathlib.Omega.{arith}
+use mathlib.Core.Path.{_≡_, refl, sym, ap, _∙_}
+use borrow.Author.Needs.{needs}
+use Rattle.row.proofs.number.signed_at.Statement.{statement}
+use Rattle.row.proofs.number.signed_at.Tie as tie
+
+sub-signed-in : tie.Need-sub-signed-in
+sub-signed-in c = search needs
+
+part-signed-in-start : tie.Need-part-signed-in-start
+part-signed-in-start c = search needs
+
+part-signed-in-end : tie.Need-part-signed-in-end
+part-signed-in-end c = search needs
+
+signed-in-requires : tie.Need-signed-in-requires
+signed-in-requires c κs = search needs
+
+add-t7 : tie.Need-add-t7
+add-t7 c =
+    let line = c .before .before .before .before .before .args .line .now in
+    let from = c .before .before .before .before .before .args .from in
+    let said : c .before .signed-in .result .next ≤ length (drop from line) + 2 = rw (c .before .signed-in .ensures, part-is line from) (next-most isSigned (drop from line)) in
+    omega (arith, said, length-drop from line, c .before .before .before .if1 .taken, c .before .before .before .before .before .pre)
+
+returns : tie.Need-returns
+returns c =
+    let line = c .before .before .before .before .before .before .args .line .now in
+    let from = c .before .before .before .before .before .before .args .from in
+    let known : SFits w64 (c .before .before .signed-in .result .value) = search needs in
+    rw (toZ-ofZ known) (signed-from line from (c .before .before .signed-in .result) (c .before .before .before .before .if1 .taken) (c .before .before .signed-in .ensures ∙ ap signedIn (part-is line from)))
+
+no-signed-requires : tie.Need-no-signed-requires
+no-signed-requires c κs = search needs
+
+returns-2 : tie.Need-returns-2
+returns-2 c = c .no-signed .ensures ∙ signed-past (c .before .before .before .args .line .now) (c .before .before .before .args .from) (c .before .if1 .left)
+
+pub signed-at-spec : {M : Type 1} → statement M
+signed-at-spec =
+    tie.close
+    (tie.spec
+    sub-signed-in
+    part-signed-in-start
+    part-signed-in-end
+    signed-in-requires
+    add-t7
+    returns
+    no-signed-requires
+    returns-2)

@@ -1,0 +1,5 @@
+pub mod Fields
+pub mod Joined
+pub mod Numbers
+pub mod Rows
+pub mod Scanned

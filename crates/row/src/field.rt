@@ -1,0 +1,60 @@
+ghost use mathlib.Core.Path.{_≡_};
+ghost use mathlib.Core.Bool.{false, _&&_};
+ghost use Prim.Native.Nat.{_≤_};
+ghost use lib.Dec.{leb};
+ghost use lib.ListN.{length, drop};
+ghost use Rattle.row.specs.Rows.{longestLine};
+ghost use Rattle.row.specs.Scanned.{ends, closesAt, nowhere, scannedIf};
+
+// What a field says, 0 where it breaks its rule, and where the next field starts.
+pub struct Scanned {
+    pub value: u64,
+    pub next: usize,
+}
+
+pub fn between(b: u8, least: u8, most: u8) -> bool
+    ensures { λ r. ⌜ r ≡ (leb least b && leb b most) ⌝ }
+{
+    least <= b && b <= most
+}
+
+// A field ends before a comma or where the line ends.
+fn ends_at(s: &[u8], i: usize) -> bool
+    requires { ⌜ i ≤ length (now s) ⌝ }
+    ensures { λ r. ⌜ r ≡ ends (drop i (now (s .entry))) ⌝ }
+{
+    if i < s.len() {
+        return s[i] == b',';
+    }
+    true
+}
+
+// Where the next field would start after one that breaks its rule.
+pub fn no_field(s: &[u8]) -> usize
+    requires { ⌜ length (now s) ≤ longestLine ⌝ }
+    ensures { λ r. ⌜ r ≡ nowhere (length (now (s .entry))) ⌝ }
+{
+    s.len() + 2
+}
+
+// A field of at least one byte ends at i.
+pub fn closes(s: &[u8], i: usize) -> bool
+    requires { ⌜ i ≤ length (now s) ⌝ }
+    ensures { λ r. ⌜ r ≡ closesAt i (now (s .entry)) ⌝ }
+{
+    if i == 0 {
+        return false;
+    }
+    ends_at(s, i)
+}
+
+// What a field that breaks its rule says.
+pub fn broken(s: &[u8]) -> Scanned
+    requires { ⌜ length (now s) ≤ longestLine ⌝ }
+    ensures { λ r. ⌜ r ≡ scannedIf false 0 0 (now (s .entry)) ⌝ }
+{
+    Scanned {
+        value: 0,
+        next: no_field(s),
+    }
+}
