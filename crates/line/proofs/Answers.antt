@@ -1,8 +1,9 @@
 -- What is written for a row, read or refused, is its answer.
 use mathlib.Core.Path.{_≡_, refl, sym, ap, _∙_, subst}
-use mathlib.Core.Bool.{Bool, true, false, true≢false}
-use mathlib.Core.Option.{some}
+use mathlib.Core.Bool.{Bool, true, false}
+use mathlib.Core.Option.{Option, none, some}
 use mathlib.Core.List.{List, [], _∷_, _++_, append-assoc, append-nil}
+use native.Mathlib.Omega.{arith}
 use Prim.Native.Nat.{ℕ}
 use lib.IntN.{ℤ, pos, negsuc, natAbs}
 use lib.Signed.{ltZ, _≤ℤ_, _<ℤ_}
@@ -18,8 +19,8 @@ use Rattle.quantity.proofs.Unique.{not-zero}
 use Rattle.scale.specs.declared.law.Law.{Law}
 use Rattle.reading.specs.Reading.{Outcome, refused, ReadNamed}
 use Rattle.row.specs.declared.row.Row.{Row}
-use Rattle.row.specs.declared.row.Parsed.{Parsed}
-use Rattle.row.specs.declared.row.Parsed.the-variants as parsed
+use Rattle.row.specs.declared.row.Parsed.the-variants as variant
+use Rattle.row.specs.Rows as parsed
 use Rattle.row.specs.Rows.{wellFormed, idOf, lawOf, rowOf, parsedOf}
 use Rattle.row.proofs.Joined.{named}
 use Rattle.line.specs.declared.lent.LineAnswer.{LineAnswer}
@@ -66,26 +67,21 @@ step-above (pos n) e = refl
 step-above (negsuc n) e = absurd (let h : pos 0 ≤ℤ negsuc n = lt-no refl e in omega ints)
 
 -- what parsing a line answered
-isRow : Parsed → Bool
-isRow (parsed.Row row) = true
-isRow parsed.IllFormed = false
+rowIn : Row → Option Row → Row
+rowIn other (some row) = row
+rowIn other none = other
 
-rowIn : Row → Parsed → Row
-rowIn other (parsed.Row row) = row
-rowIn other parsed.IllFormed = other
-
-pub well-formed : (line : List ℕ) (row : Row) → parsedOf line ≡ parsed.Row row → (wellFormed line ≡ true) × (row ≡ rowOf line)
-unfolding isRow rowIn
+pub well-formed : (line : List ℕ) (row : Row) → parsed.stated (variant.Row row) ≡ parsedOf line → (wellFormed line ≡ true) × (row ≡ rowOf line)
+unfolding rowIn
 well-formed line row = by (wellFormed line)
   where
-    by : (t : Bool) → (if t then parsed.Row (rowOf line) else parsed.IllFormed) ≡ parsed.Row row → (t ≡ true) × (row ≡ rowOf line)
-    by true e = (refl, sym (ap (rowIn row) e))
-    by false e = absurd (true≢false (sym (ap isRow e)))
+    by : (t : Bool) → parsed.stated (variant.Row row) ≡ (if t then record { code = 0; row = some (rowOf line) } else record { code = 10; row = none }) → (t ≡ true) × (row ≡ rowOf line)
+    by true e = (refl, ap (λ (o : parsed.Outcome). rowIn row (o .row)) e)
+    by false e = absurd (let code : 0 ≡ 10 = ap (λ (o : parsed.Outcome). o .code) e in omega arith)
 
-pub ill-formed : (line : List ℕ) → parsedOf line ≡ parsed.IllFormed → wellFormed line ≡ false
-unfolding isRow rowIn
+pub ill-formed : (line : List ℕ) → parsed.stated variant.IllFormed ≡ parsedOf line → wellFormed line ≡ false
 ill-formed line = by (wellFormed line)
   where
-    by : (t : Bool) → (if t then parsed.Row (rowOf line) else parsed.IllFormed) ≡ parsed.IllFormed → t ≡ false
-    by true e = ap isRow e
+    by : (t : Bool) → parsed.stated variant.IllFormed ≡ (if t then record { code = 0; row = some (rowOf line) } else record { code = 10; row = none }) → t ≡ false
+    by true e = absurd (let code : 10 ≡ 0 = ap (λ (o : parsed.Outcome). o .code) e in omega arith)
     by false e = refl

@@ -73,10 +73,10 @@ fn answer_row(line: &[u8], row: Row, out: &mut [u8]) -> LineAnswer
     requires { ⌜ (wellFormed (now line) ≡ true) × (row ≡ rowOf (now line)) ⌝ }
     ensures { λ r. ⌜ AnsweredInto (now (line .entry)) (now (out .entry)) (now (out .exit)) r ⌝ }
 {
-    let names = row.prefix;
+    let prefix = row.prefix;
     match reading::read(row.law, row.a, row.b, row.c, row.d, row.wal, row.r, row.r0) {
-        ReadingAnswer::Read(reading) => put_step(&line[..names], reading.step, out),
-        ReadingAnswer::Refused(why) => put_refused(&line[..names], why.number(), out),
+        ReadingAnswer::Read(reading) => put_step(&line[..prefix], reading.step, out),
+        ReadingAnswer::Refused(why) => put_refused(&line[..prefix], why.number(), out),
     }
 }
 

@@ -8,9 +8,9 @@ use native.Mathlib.Numerals.{add-one}
 use lib.ListN.{length, getD, take, set, length-append}
 use lib.Seq.{take-suc, take-suc-set, take-take, take-append-le, take-append-add, getD-append-add, length-take-le}
 use borrow.Author.Tests.{ne-eqb}
-use Rattle.list.specs.Lines.{lastByte, endsLine, ended, begun}
+use Rattle.list.specs.Lines.{lastByte, endsAfter, endsLine, ended, begun}
 use Rattle.list.specs.Feeding.{mostHeld, capped}
-use Rattle.list.specs.Scanning.{endsAfter, byteBefore, EndsAt}
+use Rattle.list.specs.Scanning.{byteBefore, EndsAt}
 use Rattle.list.proofs.Lines.{ended-more, begun-more, last-more}
 use Rattle.list.proofs.Capped.{capped-under, capped-over}
 

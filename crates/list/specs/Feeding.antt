@@ -8,6 +8,7 @@ use lib.ListN.{length, getD, take, drop}
 use Rattle.whole.specs.Choice.{if_then_else_}
 use Rattle.quantity.specs.Refusals.{numberOf}
 use Rattle.quantity.specs.declared.refusal.Refusal.the-variants.{IllFormed, BufferShort}
+use Rattle.row.specs.Rows.{longestLine}
 use Rattle.line.specs.declared.lent.LineAnswer.{LineAnswer}
 use Rattle.line.specs.Answer.{Answered}
 use Rattle.line.specs.Lent.{Placed}
@@ -38,18 +39,20 @@ DueToAll stage [] text later = (text ≡ []) × (later ≡ stage)
 DueToAll stage (line ∷ others) text later =
     (number : ℕ) × (first : List ℕ) × (rest : List ℕ) × Due stage line number first × DueToAll (next stage line) others rest later × (text ≡ first ++ rest)
 
--- What is due where the input ends. What there is of a line is the last line. Nothing is no line; before the header that is a wrong header.
+-- What is due to no line: before the header that is a wrong header.
+abbrev pub DueToNone : Stage → ℕ → List ℕ → Type 0
+DueToNone Header number text = (number ≡ numberOf IllFormed) × (text ≡ wrongHeader)
+DueToNone Rows number text = (number ≡ 0) × (text ≡ [])
+DueToNone Stopped number text = (number ≡ 0) × (text ≡ [])
+
+-- What is due where the input ends. What there is of a line is the last line; nothing is no line.
 abbrev pub DueAtEnd : Stage → List ℕ → ℕ → List ℕ → Type 0
-DueAtEnd Header [] number text = (number ≡ numberOf IllFormed) × (text ≡ wrongHeader)
-DueAtEnd Rows [] number text = (number ≡ 0) × (text ≡ [])
-DueAtEnd Stopped [] number text = (number ≡ 0) × (text ≡ [])
-DueAtEnd Header (b ∷ s) number text = Due Header (b ∷ s) number text
-DueAtEnd Rows (b ∷ s) number text = Due Rows (b ∷ s) number text
-DueAtEnd Stopped (b ∷ s) number text = Due Stopped (b ∷ s) number text
+DueAtEnd stage [] = DueToNone stage
+DueAtEnd stage (b ∷ s) = Due stage (b ∷ s)
 
 -- Two bytes more than the longest line, so that all but the last byte held of a longer one is still longer than a line may be.
 abbrev pub mostHeld : ℕ
-mostHeld = 202
+mostHeld = longestLine + 2
 
 -- What is held of what there is of a line: of more than that, as many bytes less one, and the last byte, which tells whether a LF ends the line.
 abbrev pub capped : List ℕ → List ℕ

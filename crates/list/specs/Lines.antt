@@ -14,9 +14,13 @@ lastByte s = getD s (length s - 1) 0
 abbrev pub allButLast : List ℕ → List ℕ
 allButLast s = take (length s - 1) s
 
--- The byte ends the line whose bytes so far are these: LF after CR. Alone either is a byte of its line.
+-- A byte after the last one: LF after CR ends a line. Alone either is a byte of its line.
+abbrev pub endsAfter : ℕ → ℕ → Bool
+endsAfter last b = eqb b (code "\n") && eqb last (code "\r")
+
+-- The byte ends the line whose bytes so far are these.
 abbrev pub endsLine : List ℕ → ℕ → Bool
-endsLine line b = eqb b (code "\n") && eqb (lastByte line) (code "\r")
+endsLine line b = endsAfter (lastByte line) b
 
 -- The lines that end within these bytes, where `line` is what there is of the first.
 abbrev pub ended : List ℕ → List ℕ → List (List ℕ)

@@ -13,10 +13,6 @@ use Rattle.list.specs.declared.feeding.Reply.{Reply}
 use Rattle.list.specs.Lines.{lastByte, endsLine, ended, begun}
 use Rattle.list.specs.Feeding.{Due, next}
 
--- This byte ends a line whose last byte so far is that.
-abbrev pub endsAfter : ℕ → ℕ → Bool
-endsAfter last b = eqb b (code "\n") && eqb last (code "\r")
-
 -- The byte before the one at i, which is the given last one before the first.
 abbrev pub byteBefore : ℕ → List ℕ → ℕ → ℕ
 byteBefore last s i = if eqb i 0 then last else getD s (i - 1) 0

@@ -101,12 +101,9 @@ fn feed_lines(first: State, chunk: &[u8], out: &mut [u8]) -> Fed
         stage = r.stage;
         from = end + 1;
     }
+    let count = 0;
     Fed {
-        state: State {
-            held,
-            count: 0,
-            stage,
-        },
+        state: State { held, count, stage },
         used: from,
         wrote: at,
     }
@@ -131,22 +128,18 @@ fn feed_held(state: State, begun: usize, chunk: &[u8], out: &mut [u8]) -> Fed
     let stage = state.stage;
     let end = scanning::line_end(held[begun - 1], chunk);
     let count = scanning::append(&mut held, begun, &chunk[..end]);
-    let after = State { held, count, stage };
+    let unanswered = Fed {
+        state: State { held, count, stage },
+        used: end,
+        wrote: 0,
+    };
     if end == chunk.len() {
-        return Fed {
-            state: after,
-            used: end,
-            wrote: 0,
-        };
+        return unanswered;
     }
     let r = reply_to(stage, &held[..count - 1], out);
     let x = r.answer;
     if x.code == NO_ROOM {
-        return Fed {
-            state: after,
-            used: end,
-            wrote: 0,
-        };
+        return unanswered;
     }
     let next = r.stage;
     let from = end + 1;

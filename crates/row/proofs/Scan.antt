@@ -19,7 +19,7 @@ use Rattle.row.specs.declared.row.Row.{Row}
 use Rattle.row.specs.declared.row.Parsed.the-variants as parsed
 use Rattle.row.specs.Fields.{field, later, fields}
 use Rattle.row.specs.Numbers.{isNumber, isSigned, valueOf, signedOf}
-use Rattle.row.specs.Rows.{isId, isLaw, rules, keep, longestLine, wellFormed, rowOf, parsedOf}
+use Rattle.row.specs.Rows.{isId, isLaw, rules, keep, longestLine, wellFormed, rowOf, stated, parsedOf}
 use Rattle.row.specs.Scanned.{nowhere, nextOf, nextAt, scannedAt, signedAt}
 
 -- A line's first field is all of it, or a comma follows and the other fields are those of what stands after it.
@@ -176,7 +176,7 @@ module _ {line : List ℕ} {id : ℕ} {law r r0 : Scanned} {a b c d : Signed} {w
   form : wellFormed line ≡ eqb (wal .next) (length line + 1)
   form = rw (le-leb (length line) longestLine (p .short)) (kept line rules 0 (omega arith) ∙ chain)
 
-  pub ill-formed : (wal .next ≡ length line + 1 → ⊥) → parsed.IllFormed ≡ parsedOf line
+  pub ill-formed : (wal .next ≡ length line + 1 → ⊥) → stated parsed.IllFormed ≡ parsedOf line
   ill-formed h = rw (form ∙ ne-eqb (wal .next) (length line + 1) h)
 
   module _ (end : wal .next ≡ length line + 1) where
@@ -244,11 +244,11 @@ module _ {line : List ℕ} {id : ℕ} {law r r0 : Scanned} {a b c d : Signed} {w
     unfolding at
     prefix-is = omega (arith, k1 .next-is, k2 .next-is)
 
-    pub row-is : parsed.Row (rowWith (law .next) (law .value) (r .value) (r0 .value) (a .value) (b .value) (c .value) (d .value) (wal .value)) ≡ parsedOf line
+    pub row-is : stated (parsed.Row (rowWith (law .next) (law .value) (r .value) (r0 .value) (a .value) (b .value) (c .value) (d .value) (wal .value))) ≡ parsedOf line
     unfolding rowOfFields at
     row-is =
         rw (form ∙ eq-eqb (wal .next) (length line + 1) end)
-        (ap parsed.Row (
+        (ap (λ (row : Row). stated (parsed.Row row)) (
         cc (
           prefix-is,
           said isLaw nameOf id (law .next) law (p .law-is) k2,

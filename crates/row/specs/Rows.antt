@@ -1,11 +1,14 @@
 -- A line of the list after its header: whether it is well-formed, and what it says.
 use mathlib.Core.List.{List, [], _∷_}
 use mathlib.Core.Bool.{Bool, true, false, _&&_, _||_}
+use mathlib.Core.Option.{Option, none, some}
 use Prim.Native.Nat.{ℕ, _+_}
 use Prim.Native.Char.{code}
 use lib.Dec.{leb, eqb}
 use lib.ListN.{length, getD}
 use Rattle.whole.specs.Choice.{if_then_else_}
+use Rattle.quantity.specs.Refusals.{numberOf}
+use Rattle.quantity.specs.declared.refusal.Refusal.the-variants.{IllFormed}
 use Rattle.scale.specs.Names.{nameOf}
 use Rattle.row.specs.declared.row.Row.{Row}
 use Rattle.row.specs.declared.row.Parsed.{Parsed}
@@ -72,6 +75,16 @@ rowOf line = record {
   wal = record { 0 = valueOf (fieldAt 8 line) };
 }
 
--- What parsing a line answers.
-abbrev pub parsedOf : List ℕ → Parsed
-parsedOf line = if wellFormed line then parsed.Row (rowOf line) else parsed.IllFormed
+-- The outcome: the number given, 0 where the line is well-formed, and its row; 10 has none.
+pub record Outcome : Type 0 where
+  pub code : ℕ
+  pub row : Option Row
+
+-- What each case stands for.
+abbrev pub stated : Parsed → Outcome
+stated (parsed.Row row) = record { code = 0; row = some row }
+stated parsed.IllFormed = record { code = numberOf IllFormed; row = none }
+
+-- What parsing a line promises.
+abbrev pub parsedOf : List ℕ → Outcome
+parsedOf line = if wellFormed line then record { code = 0; row = some (rowOf line) } else record { code = numberOf IllFormed; row = none }

@@ -1,5 +1,5 @@
 ghost use mathlib.Core.Path.{_≡_};
-ghost use Rattle.row.specs.Rows.{parsedOf};
+ghost use Rattle.row.specs.Rows.{stated, parsedOf};
 use crate::name;
 use crate::number;
 use quantity::Nanoohm;
@@ -28,7 +28,7 @@ const LONGEST_LINE: usize = 200;
 
 // What a line says, without its CRLF. After a field that breaks its rule the next one starts past every offset, so every later one breaks its rule too.
 pub fn parse(line: &[u8]) -> Parsed
-    ensures { λ r. ⌜ r ≡ parsedOf (now (line .entry)) ⌝ }
+    ensures { λ r. ⌜ stated r ≡ parsedOf (now (line .entry)) ⌝ }
 {
     if LONGEST_LINE < line.len() {
         return Parsed::IllFormed;

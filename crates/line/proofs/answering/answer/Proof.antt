@@ -1,3 +1,4 @@
+use Rattle.row.specs.Rows.{stated}
 use Rattle.line.proofs.Answers.{well-formed, ill-formed}
 use Rattle.line.specs.Answer.{illFormedLine}
 use mathlib.Core.Path.{_≡_, refl, sym, ap, _∙_, subst}
@@ -12,7 +13,7 @@ enum-known-row : tie.Need-enum-known-row
 enum-known-row c = search needs
 
 answer-row-requires : tie.Need-answer-row-requires
-answer-row-requires c κs = well-formed (c .before .before .before .before .before .before .before .args .line .now) (c .before .before .row .given .0 .0) (sym (c .before .before .before .before .parse .ensures) ∙ c .before .before .row .given .1)
+answer-row-requires c κs = well-formed (c .before .before .before .before .before .before .before .args .line .now) (c .before .before .row .given .0 .0) (sym (ap stated (c .before .before .row .given .1)) ∙ c .before .before .before .before .parse .ensures)
 
 enum-told : tie.Need-enum-told
 enum-told c = search needs
@@ -33,7 +34,7 @@ same-length-2 : tie.Need-same-length-2
 same-length-2 c = search needs
 
 returns-2 : tie.Need-returns-2
-returns-2 c = (10, illFormedLine, rw (ill-formed (c .before .before .before .before .before .before .before .before .before .before .args .line .now) (sym (c .before .before .before .before .before .before .before .parse .ensures) ∙ c .before .before .before .before .before .enum-told .given .1)) (refl, refl), c .before .before .place .ensures)
+returns-2 c = (10, illFormedLine, rw (ill-formed (c .before .before .before .before .before .before .before .before .before .before .args .line .now) (sym (ap stated (c .before .before .before .before .before .enum-told .given .1)) ∙ c .before .before .before .before .before .before .before .parse .ensures)) (refl, refl), c .before .before .place .ensures)
 
 pub answer-spec : {M : Type 1} → statement M
 answer-spec =

@@ -1,5 +1,6 @@
 use Rattle.list.proofs.Scan.{NoEndAfter, no-end-start, no-end-more, ends-at, before-next}
-use Rattle.list.specs.Scanning.{endsAfter, byteBefore}
+use Rattle.list.specs.Lines.{endsAfter}
+use Rattle.list.specs.Scanning.{byteBefore}
 use mathlib.Core.Bool.{Bool, true, false, _&&_}
 use lib.ListN.{length, getD}
 use lib.Dec.{eqb}
