@@ -25,7 +25,8 @@ use Rattle.row.specs.Rows.{wellFormed, idOf, lawOf, rowOf, parsedOf}
 use Rattle.row.proofs.Joined.{named}
 use Rattle.line.specs.declared.lent.LineAnswer.{LineAnswer}
 use Rattle.line.specs.Decimal.{decimal, signedDecimal}
-use Rattle.line.specs.Answer.{names, answerLine, readText, refusedText, ReadRow, Answered}
+use Rattle.line.specs.Answer.{names, answerLine, ReadRow, Answered}
+use Rattle.line.specs.Writing.{readText, refusedText}
 use Rattle.line.specs.Lent.{Placed, AnsweredInto}
 
 read-text : (x : List ℕ) → x ++ ascii ",0\r\n" ≡ x ++ ascii "," ++ decimal 0 ++ ascii "\r\n"

@@ -12,7 +12,7 @@ use lib.ListN.{length, take, drop, set, length-append, length-set, take-append-d
 use borrow.Author.Tests.{lt-ltb, le-ltb, ltb-true, ltb-false}
 use Rattle.whole.specs.Choice.{if_then_else_}
 use Rattle.line.specs.Decimal.{digitsIn, decimal}
-use Rattle.line.specs.Lent.{over}
+use Rattle.line.specs.Writing.{over}
 use Rattle.line.proofs.Overs.{over-before}
 
 -- enough is enough

@@ -6,7 +6,7 @@ use native.Mathlib.Omega.{arith}
 use Prim.Native.Nat.{ℕ, suc, _+_, _≤_, _<_}
 use lib.ListN.{length, take, drop, set, getD, length-append}
 use lib.Seq.{take-append-seam, drop-append-add, drop-drop, take-suc, length-take-le, set-at, paste, take-length}
-use Rattle.line.specs.Lent.{over}
+use Rattle.line.specs.Writing.{over}
 
 -- a text at the start
 pub over-start : (text out : List ℕ) → over out 0 text ≡ text ++ drop (length text) out

@@ -9,7 +9,8 @@ use lib.ListN.{length, drop, length-append}
 use borrow.Author.Tests.{le-leb, lt-leb, leb-true}
 use Rattle.whole.specs.Choice.{if_then_else_}
 use Rattle.line.specs.declared.lent.LineAnswer.{LineAnswer}
-use Rattle.line.specs.Lent.{over, Placed}
+use Rattle.line.specs.Lent.{Placed}
+use Rattle.line.specs.Writing.{over}
 use Rattle.line.proofs.Overs.{over-start, over-more}
 
 pub placed : (number : ℕ) (text out out′ : List ℕ) (wrote : ℕ) → wrote ≡ length text → wrote ≤ length out → out′ ≡ text ++ drop (length text) out

@@ -24,13 +24,6 @@ names id law = id ++ ascii "," ++ law ++ ascii ","
 abbrev pub answerLine : List ℕ → List ℕ → Outcome → List ℕ
 answerLine id law o = names id law ++ temperature o ++ ascii "," ++ decimal (o .code) ++ ascii "\r\n"
 
--- The same after names, for a line that was read and for one that was refused.
-abbrev pub readText : List ℕ → List ℕ → List ℕ
-readText first t = first ++ t ++ ascii ",0\r\n"
-
-abbrev pub refusedText : List ℕ → ℕ → List ℕ
-refusedText first number = first ++ ascii "," ++ decimal number ++ ascii "\r\n"
-
 abbrev pub illFormedLine : List ℕ
 illFormedLine = ascii "?,?,,10\r\n"
 

@@ -11,10 +11,6 @@ use Rattle.row.specs.Rows.{longestId, longestLaw}
 use Rattle.line.specs.declared.lent.LineAnswer.{LineAnswer}
 use Rattle.line.specs.Answer.{Answered}
 
--- The buffer with a text written over its bytes from an offset on.
-abbrev pub over : List ℕ → ℕ → List ℕ → List ℕ
-over out at text = take at out ++ text ++ drop (at + length text) out
-
 -- A text in a buffer that may be too short for it: the buffer's first bytes are the text and the others stay, or 11 and every byte stays.
 abbrev pub Placed : ℕ → List ℕ → List ℕ → List ℕ → LineAnswer → Type 0
 Placed number text out out′ x =

@@ -1,4 +1,5 @@
 pub mod Decimal
 pub mod Answer
 pub mod Lent
+pub mod Writing
 pub mod Promised

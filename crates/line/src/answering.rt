@@ -5,7 +5,7 @@ ghost use Prim.Native.Nat.{_≤_};
 ghost use lib.ListN.{length};
 ghost use Rattle.row.specs.Rows.{wellFormed, rowOf, longestLine};
 ghost use Rattle.line.specs.Decimal.{decimal, signedDecimal};
-ghost use Rattle.line.specs.Answer.{readText, refusedText};
+ghost use Rattle.line.specs.Writing.{readText, refusedText};
 ghost use Rattle.line.specs.Lent.{Placed, AnsweredInto};
 use crate::decimal;
 use crate::lent;

@@ -3,7 +3,7 @@ ghost use mathlib.Core.Path.{_≡_};
 ghost use Prim.Native.Nat.{_+_, _≤_, _<_};
 ghost use lib.ListN.{length};
 ghost use Rattle.line.specs.Decimal.{decimal};
-ghost use Rattle.line.specs.Lent.{over};
+ghost use Rattle.line.specs.Writing.{over};
 
 // How many digits a number has.
 pub fn width(n: u64) -> usize

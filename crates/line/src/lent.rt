@@ -1,7 +1,8 @@
 ghost use mathlib.Core.Path.{_≡_};
 ghost use Prim.Native.Nat.{_+_, _≤_};
 ghost use lib.ListN.{length};
-ghost use Rattle.line.specs.Lent.{over, Placed};
+ghost use Rattle.line.specs.Lent.{Placed};
+ghost use Rattle.line.specs.Writing.{over};
 
 // What was answered to a line: the number, 0 where the line is read, and how many bytes of the buffer were written.
 pub struct LineAnswer {

@@ -128,16 +128,21 @@ plain (b ∷ s) h k = by (eqb b (code ","))
 pub part-is : (line : List ℕ) (from : ℕ) → take (length line - from) (drop from line) ≡ drop from line
 part-is line from = take-all (length line - from) (drop from line) (rw (length-drop from line) (omega arith))
 
-pub scanned-from : (rule : List ℕ → Bool) (value : List ℕ → ℕ) (line : List ℕ) (from : ℕ) (x : Scanned) → from ≤ length line
-    → x ≡ scannedIn rule value (drop from line) → record { value = x .value; next = from + x .next } ≡ scannedAt rule value line from
-scanned-from rule value line from x h e = rw (le-leb from (length line) h, e)
+-- what a step says of the part of the line from an offset on
+module _ (line : List ℕ) (from : ℕ) (h : from ≤ length line) where
+  -- no next field starts past the line by more than two
+  pub next-within : (rule : List ℕ → Bool) (n : ℕ) → n ≡ nextOf rule (take (length line - from) (drop from line)) → from + n ≤ length line + 2
+  next-within rule n e = omega (arith, e ∙ ap (nextOf rule) (part-is line from), next-most rule (drop from line), length-drop from line)
+
+  pub scanned-from : (rule : List ℕ → Bool) (value : List ℕ → ℕ) (x : Scanned) → x ≡ scannedIn rule value (take (length line - from) (drop from line))
+      → record { value = x .value; next = from + x .next } ≡ scannedAt rule value line from
+  scanned-from rule value x e = rw (le-leb from (length line) h, e, part-is line from)
+
+  pub signed-from : (x : Signed) → x ≡ signedIn (take (length line - from) (drop from line)) → record { value = x .value; next = from + x .next } ≡ signedAt line from
+  signed-from x e = rw (le-leb from (length line) h, e, part-is line from)
 
 pub scanned-past : (rule : List ℕ → Bool) (value : List ℕ → ℕ) (line : List ℕ) (from : ℕ) → length line < from → scannedIf false 0 0 line ≡ scannedAt rule value line from
 scanned-past rule value line from h = rw (lt-leb from (length line) h)
-
-pub signed-from : (line : List ℕ) (from : ℕ) (x : Signed) → from ≤ length line → x ≡ signedIn (drop from line)
-    → record { value = x .value; next = from + x .next } ≡ signedAt line from
-signed-from line from x h e = rw (le-leb from (length line) h, e)
 
 pub signed-past : (line : List ℕ) (from : ℕ) → length line < from → signedIf false (pos 0) 0 line ≡ signedAt line from
 signed-past line from h = rw (lt-leb from (length line) h)

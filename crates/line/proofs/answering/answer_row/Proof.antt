@@ -1,7 +1,8 @@
 use Rattle.quantity.specs.Refusals.{numberOf}
 use Rattle.line.proofs.Answers.{answered-read, answered-refused, read-same}
 use Rattle.line.specs.Lent.{Placed}
-use Rattle.line.specs.Answer.{readText, refusedText, ReadRow}
+use Rattle.line.specs.Answer.{ReadRow}
+use Rattle.line.specs.Writing.{readText, refusedText}
 use Rattle.line.specs.Decimal.{signedDecimal}
 use Rattle.reading.specs.Reading.{stated}
 use Rattle.reading.specs.declared.reading.ReadingAnswer.the-variants.{Read, Refused}

@@ -3,7 +3,7 @@ use lib.IntN.{natAbs}
 use mathlib.Core.Bool.{true, false}
 use Rattle.line.proofs.Answers.{step-below, step-above}
 use Rattle.line.specs.Lent.{Placed}
-use Rattle.line.specs.Answer.{readText}
+use Rattle.line.specs.Writing.{readText}
 use Rattle.line.specs.Decimal.{decimal, signedDecimal}
 use Rattle.whole.specs.Text.{ascii}
 use mir.Facts.{toZ-ofZ}

@@ -1,8 +1,7 @@
+use Rattle.row.specs.declared.field.Scanned.{Scanned}
+use Rattle.row.proofs.Offsets.{next-within, scanned-from, scanned-past}
 use Rattle.row.specs.Rows.{isLaw}
 use Rattle.scale.specs.Names.{nameOf}
-use Rattle.row.proofs.Offsets.{next-most, part-is, scanned-from, scanned-past}
-use Rattle.row.specs.Scanned.{scannedIn}
-use lib.ListN.{length-drop}
 use lib.ListN.{length, getD, take, drop}
 use Prim.Native.Nat.{ℕ, _+_, _-_, _*_, _^_, _≤_, _<_}
 use native.Mathlib.Omega.{arith}
@@ -24,17 +23,10 @@ name-in-requires : tie.Need-name-in-requires
 name-in-requires c κs = search needs
 
 add-t7 : tie.Need-add-t7
-add-t7 c =
-    let line = c .before .before .before .before .before .args .line .now in
-    let from = c .before .before .before .before .before .args .from in
-    let said : c .before .name-in .result .next ≤ length (drop from line) + 2 = rw (c .before .name-in .ensures, part-is line from) (next-most isLaw (drop from line)) in
-    omega (arith, said, length-drop from line, c .before .before .before .if1 .taken, c .before .before .before .before .before .pre)
+add-t7 c = omega (arith, next-within (c .before .before .before .before .before .args .line .now) (c .before .before .before .before .before .args .from) (c .before .before .before .if1 .taken) isLaw (c .before .name-in .result .next) (ap (λ (x : Scanned). x .next) (c .before .name-in .ensures)), c .before .before .before .before .before .pre)
 
 returns : tie.Need-returns
-returns c =
-    let line = c .before .before .before .before .before .args .line .now in
-    let from = c .before .before .before .before .before .args .from in
-    scanned-from isLaw nameOf line from (c .before .name-in .result) (c .before .before .before .if1 .taken) (c .before .name-in .ensures ∙ ap (scannedIn isLaw nameOf) (part-is line from))
+returns c = scanned-from (c .before .before .before .before .before .args .line .now) (c .before .before .before .before .before .args .from) (c .before .before .before .if1 .taken) isLaw nameOf (c .before .name-in .result) (c .before .name-in .ensures)
 
 broken-requires : tie.Need-broken-requires
 broken-requires c κs = search needs

@@ -1,7 +1,6 @@
+use Rattle.row.specs.declared.field.Scanned.{Scanned}
+use Rattle.row.proofs.Offsets.{next-within, scanned-from, scanned-past}
 use Rattle.row.specs.Numbers.{isNumber, valueOf}
-use Rattle.row.proofs.Offsets.{next-most, part-is, scanned-from, scanned-past}
-use Rattle.row.specs.Scanned.{scannedIn}
-use lib.ListN.{length-drop}
 use lib.ListN.{length, getD, take, drop}
 use Prim.Native.Nat.{ℕ, _+_, _-_, _*_, _^_, _≤_, _<_}
 use native.Mathlib.Omega.{arith}
@@ -23,17 +22,10 @@ number-in-requires : tie.Need-number-in-requires
 number-in-requires c κs = search needs
 
 add-t7 : tie.Need-add-t7
-add-t7 c =
-    let line = c .before .before .before .before .before .args .line .now in
-    let from = c .before .before .before .before .before .args .from in
-    let said : c .before .number-in .result .next ≤ length (drop from line) + 2 = rw (c .before .number-in .ensures, part-is line from) (next-most isNumber (drop from line)) in
-    omega (arith, said, length-drop from line, c .before .before .before .if1 .taken, c .before .before .before .before .before .pre)
+add-t7 c = omega (arith, next-within (c .before .before .before .before .before .args .line .now) (c .before .before .before .before .before .args .from) (c .before .before .before .if1 .taken) isNumber (c .before .number-in .result .next) (ap (λ (x : Scanned). x .next) (c .before .number-in .ensures)), c .before .before .before .before .before .pre)
 
 returns : tie.Need-returns
-returns c =
-    let line = c .before .before .before .before .before .args .line .now in
-    let from = c .before .before .before .before .before .args .from in
-    scanned-from isNumber valueOf line from (c .before .number-in .result) (c .before .before .before .if1 .taken) (c .before .number-in .ensures ∙ ap (scannedIn isNumber valueOf) (part-is line from))
+returns c = scanned-from (c .before .before .before .before .before .args .line .now) (c .before .before .before .before .before .args .from) (c .before .before .before .if1 .taken) isNumber valueOf (c .before .number-in .result) (c .before .number-in .ensures)
 
 broken-requires : tie.Need-broken-requires
 broken-requires c κs = search needs

@@ -1,11 +1,10 @@
+use Rattle.row.specs.declared.number.Signed.{Signed}
+use Rattle.row.proofs.Offsets.{next-within, signed-from, signed-past}
 use mir.Facts.{toZ-ofZ}
 use mir.Syntax.{w64}
 use lib.IntN.{ℤ}
-use Rattle.row.proofs.Offsets.{next-most, part-is, signed-from, signed-past}
-use Rattle.row.specs.Scanned.{signedIn}
 use Rattle.row.specs.Numbers.{isSigned}
 use mir.Val.{SFits}
-use lib.ListN.{length-drop}
 use lib.ListN.{length, getD, take, drop}
 use Prim.Native.Nat.{ℕ, _+_, _-_, _*_, _^_, _≤_, _<_}
 use native.Mathlib.Omega.{arith}
@@ -27,18 +26,12 @@ signed-in-requires : tie.Need-signed-in-requires
 signed-in-requires c κs = search needs
 
 add-t7 : tie.Need-add-t7
-add-t7 c =
-    let line = c .before .before .before .before .before .args .line .now in
-    let from = c .before .before .before .before .before .args .from in
-    let said : c .before .signed-in .result .next ≤ length (drop from line) + 2 = rw (c .before .signed-in .ensures, part-is line from) (next-most isSigned (drop from line)) in
-    omega (arith, said, length-drop from line, c .before .before .before .if1 .taken, c .before .before .before .before .before .pre)
+add-t7 c = omega (arith, next-within (c .before .before .before .before .before .args .line .now) (c .before .before .before .before .before .args .from) (c .before .before .before .if1 .taken) isSigned (c .before .signed-in .result .next) (ap (λ (x : Signed). x .next) (c .before .signed-in .ensures)), c .before .before .before .before .before .pre)
 
 returns : tie.Need-returns
 returns c =
-    let line = c .before .before .before .before .before .before .args .line .now in
-    let from = c .before .before .before .before .before .before .args .from in
     let known : SFits w64 (c .before .before .signed-in .result .value) = search needs in
-    rw (toZ-ofZ known) (signed-from line from (c .before .before .signed-in .result) (c .before .before .before .before .if1 .taken) (c .before .before .signed-in .ensures ∙ ap signedIn (part-is line from)))
+    rw (toZ-ofZ known) (signed-from (c .before .before .before .before .before .before .args .line .now) (c .before .before .before .before .before .before .args .from) (c .before .before .before .before .if1 .taken) (c .before .before .signed-in .result) (c .before .before .signed-in .ensures))
 
 no-signed-requires : tie.Need-no-signed-requires
 no-signed-requires c κs = search needs
