@@ -9,12 +9,14 @@ sys.dont_write_bytecode = True
 from itertools import zip_longest
 from pathlib import Path
 
+import cards
 import certificate_cases
 import curve_cases
 import ground
 import launchlist_cases
 import reading
 import reading_cases
+import tables
 from cases import CheckFailed
 from certificate import WR, certify, given
 from curve import allows, forward, read, tolerance
@@ -42,6 +44,8 @@ MAKERS = {
     "crates/curve_cases/stdout": curve_cases.make,
     "crates/certificate_cases/stdout": certificate_cases.make,
     "crates/reading_cases/stdout": reading_cases.make,
+    "crates/cards/stdout": cards.make,
+    "crates/tables/stdout": tables.make,
     "crates/launchlist/stdin": launchlist_cases.stdin,
     "crates/launchlist/stdout": launchlist_cases.stdout,
     "examples/round.answer.csv": example_answer,

@@ -2,4 +2,3 @@ pub mod Records
 pub mod Made
 pub mod Answers
 pub mod Unique
-pub mod Values

@@ -3,10 +3,11 @@ use mathlib.Core.Bool.{Bool, _&&_, _||_, not}
 use mathlib.Core.List.{List, map}
 use mathlib.Core.Option.{Option, none, some}
 use Prim.Native.Nat.{ℕ}
-use lib.Dec.{leb, ltb}
+use lib.Dec.{ltb}
 use Rattle.whole.specs.Any.{any}
 use Rattle.whole.specs.Choice.{if_then_else_}
 use Rattle.quantity.specs.Quantities.{largestRatio}
+use Rattle.purity.specs.Purity.{isMeasured, pure}
 use Rattle.scale.specs.declared.cell.Cell.{Cell}
 use Rattle.scale.specs.declared.cell.Cell.the-variants as cell
 use Rattle.scale.specs.declared.subrange.Subrange.{Subrange}
@@ -31,9 +32,8 @@ ratio ratios cell.Zn = ratios .zinc .0
 ratio ratios cell.Al = ratios .aluminium .0
 ratio ratios cell.Ag = ratios .silver .0
 
--- 0 means not measured.
 abbrev pub measured : Record → Cell → Bool
-measured ratios p = ltb 0 (ratio ratios p)
+measured ratios p = isMeasured (ratio ratios p)
 
 -- 2: a ratio above 4.4, of any cell.
 unfoldable pub ratioAbove : Record → Bool
@@ -47,19 +47,9 @@ cellMissing ratios needed = any (λ (p : Cell). not (measured ratios p)) needed
 unfoldable pub purityCellMissing : Record → Bool
 purityCellMissing ratios = not (measured ratios cell.Ga || measured ratios cell.Hg)
 
--- Purity: W(Ga) ≥ 1.11807 or W(Hg) ≤ 0.844235, one being enough, of a cell that was measured; for ag also W(Ag) ≥ 4.2844.
-abbrev pub pureByGallium : Record → Bool
-pureByGallium ratios = leb 1_118_070_000 (ratio ratios cell.Ga)
-
-abbrev pub pureByMercury : Record → Bool
-pureByMercury ratios = measured ratios cell.Hg && leb (ratio ratios cell.Hg) 844_235_000
-
-abbrev pub pureBySilver : Record → Bool
-pureBySilver ratios = leb 4_284_400_000 (ratio ratios cell.Ag)
-
--- 6: purity not met.
+-- 6: purity not met, W(Ag) being asked for where the subrange reaches silver.
 unfoldable pub impure : Subrange → Record → Bool
-impure s ratios = not ((pureByGallium ratios || pureByMercury ratios) && (not (carried s .silver) || pureBySilver ratios))
+impure s ratios = not (pure (carried s .silver) (ratio ratios cell.Hg) (ratio ratios cell.Ga) (ratio ratios cell.Ag))
 
 -- 7: the deviation of a cell given, used or not, is beyond its limit.
 unfoldable pub deviates : Record → Bool

@@ -20,6 +20,7 @@ use fit::of_four;
 use fit::of_one;
 use fit::of_three;
 use fit::of_two;
+use purity::is_pure;
 use quantity::Ratio;
 use quantity::Refusal;
 use scale::Cell;
@@ -43,13 +44,6 @@ pub struct Record {
     pub aluminium: Ratio,
     pub silver: Ratio,
 }
-
-// The purity relations' limits.
-const LEAST_GALLIUM: u64 = 1_118_070_000;
-
-const MOST_MERCURY: u64 = 844_235_000;
-
-const LEAST_SILVER: u64 = 4_284_400_000;
 
 fn above(w: Ratio) -> bool
     ensures { λ b. ⌜ b ≡ ltb largestRatio (w .0) ⌝ }
@@ -122,14 +116,15 @@ impl Record {
         !(self.measured(Cell::Ga) | self.measured(Cell::Hg))
     }
 
-    // Whether the purity relations are not met. One of the first two is enough, and a cell that was not measured meets none.
+    // Whether the purity relations are not met.
     fn impure(self, subrange: Subrange) -> bool
         ensures { λ b. ⌜ b ≡ impureBy subrange self ⌝ }
     {
-        let by_gallium = LEAST_GALLIUM <= self.ratio(Cell::Ga);
-        let by_mercury = self.measured(Cell::Hg) & (self.ratio(Cell::Hg) <= MOST_MERCURY);
-        let by_silver = LEAST_SILVER <= self.ratio(Cell::Ag);
-        !((by_gallium | by_mercury) & (!subrange.reaches_silver() | by_silver))
+        let to_silver = subrange.reaches_silver();
+        let mercury = self.mercury;
+        let gallium = self.gallium;
+        let silver = self.silver;
+        !is_pure(to_silver, mercury, gallium, silver)
     }
 
     // Whether a cell was measured and its deviation is beyond its limit.

@@ -6,4 +6,3 @@ pub mod Ends
 pub mod Outcomes
 pub mod Back
 pub mod Unique
-pub mod Values

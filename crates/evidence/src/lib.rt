@@ -1,9 +1,16 @@
-// What the programs that are evidence share: cases from a small seeded generator, and lines that are printed in part and digested whole.
+// What the programs that are evidence share: cases from a small seeded generator, lines that are printed in part and digested whole, and words and
+// numbers that are printed one after the other.
 // second/README.md has the rules, which the second program follows too.
+mod figure;
 mod generator;
 mod line;
 mod report;
 
+pub use figure::ONE;
+pub use figure::say;
+pub use figure::say_difference;
+pub use figure::say_natural;
+pub use figure::say_signed;
 pub use generator::Drawn;
 pub use generator::Generator;
 pub use line::natural;

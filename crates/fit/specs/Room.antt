@@ -1,4 +1,4 @@
--- What the code that works the coefficients may count on, so that nothing passes 64 bits. No promise to a caller rests on it.
+-- What the functions that work the coefficients ask for, so that nothing passes 64 bits, and what the one for four cells promises where d might not fit.
 use mathlib.Core.Path.{_≡_}
 use mathlib.Core.Bool.{true, false}
 use mathlib.Core.List.{List, [], _∷_}

@@ -13,7 +13,7 @@ use Rattle.whole.proofs.Rounding.{quotient-fits}
 use Rattle.quantity.specs.Quantities.{kelvinOf}
 use Rattle.reference.specs.Reference.{working}
 use Rattle.reference.proofs.Rising.{between-ends}
-use Rattle.reference.proofs.Values.{card-1, at-past-last}
+use Rattle.reference.proofs.Values.{at-zero, at-past-last}
 
 -- a quotient whose divisor is not 0
 pub divisible : (z d : ℤ) → natAbs z < 2 ^ 63 → 1 ≤ natAbs d → (d ≡ pos 0 → ⊥) × SFits w64 (quotient z d)
@@ -28,6 +28,6 @@ from-zero n = rw (-ℤ-+ℤ-cancel (pos n) (pos 2_731_500)) (omega ints)
 -- a working value and what lies beside it
 pub beside-fits : (step more : ℕ) → step < 9_617_802 → more < 3 → SFits w64 (working (pos step) +ℤ (pos more -ℤ pos 1))
 beside-fits step more p q =
-    let e = rw (card-1, at-past-last) at (between-ends (pos step) (omega ints) (omega ints)) in
+    let e = rw (at-zero, at-past-last) at (between-ends (pos step) (omega ints) (omega ints)) in
     let w = working (pos step) in
     sum-fits w (pos more -ℤ pos 1) (omega (ints, e .0, e .1, abs-parts w, one-part w, abs-sub (pos more) (pos 1)))

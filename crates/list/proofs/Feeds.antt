@@ -20,11 +20,14 @@ use Rattle.list.specs.declared.state.Stage.the-variants.{Header, Rows, S
 use Rattle.list.specs.declared.state.State.{State}
 use Rattle.list.specs.declared.feeding.Fed.{Fed}
 use Rattle.list.specs.declared.feeding.Reply.{Reply}
-use Rattle.list.specs.Lines.{lastByte, allButLast, endsLine, ended, begun}
-use Rattle.list.specs.Feeding.{Due, next, DueToAll, DueAtEnd, mostHeld, capped, lineOf, Full, FedAs}
-use Rattle.list.specs.Scanning.{EndsAt, RepliedAs}
-use Rattle.list.proofs.Lines.{front-take, ends-some, ended-append, begun-append, ended-one, begun-none, ended-before, begun-before, ends-here, begun-with, ended-with}
-use Rattle.list.proofs.Capped.{capped-ends, capped-front, capped-next, capped-alike, alike-sym, front-due}
+use Rattle.lines.specs.Lines.{lastByte, allButLast, endsLine, ended, begun}
+use Rattle.lines.specs.Held.{mostHeld, capped}
+use Rattle.list.specs.Feeding.{Due, next, DueToAll, DueAtEnd, lineOf, Full, FedAs}
+use Rattle.lines.specs.Ends.{EndsAt}
+use Rattle.list.specs.Replies.{RepliedAs}
+use Rattle.lines.proofs.Lines.{front-take, ends-some, ended-append, begun-append, ended-one, begun-none, ended-before, begun-before, ends-here, begun-with, ended-with}
+use Rattle.lines.proofs.Capped.{capped-ends, capped-alike, alike-sym}
+use Rattle.list.proofs.Capped.{capped-front, capped-next, front-due}
 use Rattle.list.proofs.Dues.{due-more, due-small}
 
 -- ---- a reply

@@ -1,7 +1,5 @@
-pub mod Lines
 pub mod Same
 pub mod Capped
-pub mod Scan
 pub mod Dues
 pub mod Unique
 pub mod Whole

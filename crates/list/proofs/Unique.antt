@@ -13,12 +13,14 @@ use Rattle.line.specs.declared.lent.LineAnswer.{LineAnswer}
 use Rattle.line.specs.Lent.{Placed}
 use Rattle.list.specs.declared.state.State.{State}
 use Rattle.list.specs.declared.feeding.Fed.{Fed}
-use Rattle.list.specs.Lines.{allButLast, endsLine, ended, begun, lines}
+use Rattle.lines.specs.Lines.{allButLast, endsLine, ended, begun, lines}
 use Rattle.list.specs.Lists.{same, inputHeader, outputHeader, RowsAnswered, HeaderAnswered, LinesAnswered}
-use Rattle.list.specs.Feeding.{Due, DueToAll, capped, lineOf, FedAs}
+use Rattle.lines.specs.Held.{capped}
+use Rattle.list.specs.Feeding.{Due, DueToAll, lineOf, FedAs}
 use Rattle.list.specs.Promised.{OneList, OneFeeding, OneEnding}
-use Rattle.list.proofs.Lines.{ended-append}
-use Rattle.list.proofs.Capped.{capped-ends, capped-front}
+use Rattle.lines.proofs.Lines.{ended-append}
+use Rattle.lines.proofs.Capped.{capped-ends}
+use Rattle.list.proofs.Capped.{capped-front}
 use Rattle.line.proofs.Unique.{one-answer}
 use Rattle.list.proofs.Dues.{due-within, all-unique, at-end-unique}
 

@@ -3,33 +3,39 @@ use mathlib.Core.Path.{_≡_, refl}
 use mathlib.Core.Option.{some}
 use mathlib.Core.List.{List, [], _∷_, _++_}
 use native.Mathlib.Omega.{arith}
-use Prim.Native.Nat.{ℕ, _≤_}
-use lib.IntN.{ℤ, pos}
-use lib.Signed.{leZ-yes, ltZ-yes}
+use Prim.Native.Nat.{ℕ}
+use lib.IntN.{pos}
 use Rattle.whole.specs.Text.{ascii}
 use Rattle.polynomial.specs.Polynomial.{rounded}
 use Rattle.scale.specs.declared.law.Law.the-variants.{Curve, Scale}
 use Rattle.scale.specs.declared.subrange.Subrange.the-variants.{Ag, Zn}
 use Rattle.scale.specs.Deviation.{x, δ, keeps, plainDeviation}
 use Rattle.reference.specs.Reference.{working}
-use Rattle.curve.proofs.Values as curve
+use Rattle.curve.specs.Curve.{exact, quadratic, quartic, units}
 use Rattle.certificate.specs.declared.certificate.Certificate.{Certificate}
+use Rattle.certificate.specs.Certificate.{certificateOf}
 use Rattle.deviation.specs.Working.{hasDTerm, z, dTerm, deviation, Wr}
 use Rattle.reading.specs.Reading.{refused, ReadNamed}
-use Rattle.reading.proofs.Outcomes.{curve-reads}
-use Rattle.reading.proofs.Values.{card-3}
+use Rattle.reading.proofs.Tests.{step-passes}
 use Rattle.scale.specs.Names.{spelled}
 use Rattle.line.specs.Decimal.{decimal}
 use Rattle.line.specs.Answer.{Answered}
 use Rattle.line.proofs.Decimals.{decimal-one, decimal-more}
 use Rattle.list.specs.Lists.{ListAnswered}
 
+abbrev byCurve : Certificate
+byCurve = certificateOf Curve (pos 0) (pos 0) (pos 0) (pos 0) 0
+
 read-F1 : ReadNamed (spelled "curve") (pos 0) (pos 0) (pos 0) (pos 0) 0 138_505_500_000 100_000_000_000 (record { code = 0; law = some Curve; step = pos 1_000_000 })
-read-F1 = curve-reads (record { law = Curve; a = pos 0; b = pos 0; c = pos 0; d = pos 0; wal = record { 0 = 0 } }) refl 1_385_055_000 (omega arith) (record { code = 0; step = pos 1_000_000 }) curve.card-7
+unfolding exact quadratic quartic units
+read-F1 = step-passes byCurve 1_385_055_000 (pos 1_000_000) refl
+
+abbrev byAg : Certificate
+byAg = certificateOf (Scale Ag) (pos 0) (pos 0) (pos 0) (pos 0) 3_376_008_600
 
 read-F2 : ReadNamed (spelled "ag") (pos 0) (pos 0) (pos 0) (pos 0) 3_376_008_600 69_539_313_500 25_000_000_000 (record { code = 0; law = some (Scale Ag); step = pos 4_810_000 })
-unfolding keeps x δ
-read-F2 = card-3
+unfolding working rounded Wr deviation plainDeviation dTerm hasDTerm z x δ keeps
+read-F2 = step-passes byAg 2_781_572_540 (pos 4_810_000) refl
 
 read-F3 : ReadNamed (spelled "zn") (pos 0) (pos 0) (pos 0) (pos 0) 0 69_539_313_500 25_000_000_000 (refused 9)
 unfolding working rounded Wr deviation plainDeviation dTerm hasDTerm z x

@@ -18,12 +18,14 @@ use Rattle.line.specs.Lent.{Placed}
 use Rattle.list.specs.declared.state.Stage.{Stage}
 use Rattle.list.specs.declared.state.Stage.the-variants.{Header, Rows, Stopped}
 use Rattle.list.specs.declared.state.State.{State}
-use Rattle.list.specs.Lines.{allButLast, ended, begun, lastLine}
+use Rattle.lines.specs.Lines.{allButLast, ended, begun, lastLine}
 use Rattle.list.specs.Lists.{same, inputHeader, outputHeader, wrongHeader, RowsAnswered, HeaderAnswered, LinesAnswered, ListAnswered}
-use Rattle.list.specs.Feeding.{Due, next, DueToAll, DueAtEnd, capped, lineOf, Run, finish, feed}
+use Rattle.lines.specs.Held.{capped}
+use Rattle.list.specs.Feeding.{Due, next, DueToAll, DueAtEnd, lineOf, Run, finish, feed, stop}
 use Rattle.list.specs.Promised.{EveryCutting, GoesOn, EndFits}
-use Rattle.list.proofs.Lines.{ended-append, begun-append}
-use Rattle.list.proofs.Capped.{capped-alike, alike-begun, alike-at-end, capped-all}
+use Rattle.lines.proofs.Lines.{ended-append, begun-append}
+use Rattle.lines.proofs.Capped.{capped-alike, alike-begun}
+use Rattle.list.proofs.Capped.{alike-at-end, capped-all}
 use Rattle.list.proofs.Dues.{due-append, due-small, at-end-small}
 
 -- What is due to all lines of an input, from a stage and what there is of a line on.
@@ -54,6 +56,15 @@ placed-text n t out out′ x not-short h =
     (λ p. ap₂ take (ap (λ (x : LineAnswer). x .wrote) (p .0)) (p .1) ∙ take-append-seam t (drop (length t) out))
     (λ p. absurd (not-short (ap (λ (x : LineAnswer). x .code) (p .0))))
 
+-- nothing is due after a wrong header
+stopped-due : (ls : List (List ℕ)) → DueToAll Stopped ls [] Stopped
+stopped-due [] = (refl, refl)
+stopped-due (row ∷ ls) = (0, [], [], (refl, refl), stopped-due ls, refl)
+
+stopped-at-end : (line : List ℕ) → DueAtEnd Stopped line 0 []
+stopped-at-end [] = (refl, refl)
+stopped-at-end (b ∷ s) = (refl, refl)
+
 run-says : {st : State} {input output : List ℕ} → Run st input output → Said (st .stage) (lineOf st) input output
 run-says {st} (finish out out′ x (n, t, due, placed) not-short) = record {
   later = st .stage;
@@ -71,6 +82,17 @@ run-says {st} (feed {output = output} chunk more out out′ x f run) =
     let later = subst (λ (l : List ℕ). Said (x .state .stage) l rest output) (f .held) (run-says run) in
     let said = said-after (st .stage) (x .state .stage) (lineOf st) (take (x .used) chunk) rest (f .text) output (f .due) later in
     subst (λ (s : List ℕ). Said (st .stage) (lineOf st) s (take (x .wrote) out′ ++ output)) whole (subst (λ (t : List ℕ). Said (st .stage) (lineOf st) (take (x .used) chunk ++ rest) (t ++ output)) (sym wrote) said)
+run-says {st} (stop unread is) =
+    subst (λ (g : Stage). Said g (lineOf st) unread []) (sym is)
+    (record {
+      later = Stopped;
+      text = [];
+      number = 0;
+      last = [];
+      due = stopped-due (ended (lineOf st) unread);
+      at-end = stopped-at-end (begun (lineOf st) unread);
+      both = refl;
+    })
 
 -- ---- what was due is the answer to the list
 -- to rows, the last of which may be cut short

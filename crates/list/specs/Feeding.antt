@@ -8,7 +8,6 @@ use lib.ListN.{length, getD, take, drop}
 use Rattle.whole.specs.Choice.{if_then_else_}
 use Rattle.quantity.specs.Refusals.{numberOf}
 use Rattle.quantity.specs.declared.refusal.Refusal.the-variants.{IllFormed, BufferShort}
-use Rattle.row.specs.Rows.{longestLine}
 use Rattle.line.specs.declared.lent.LineAnswer.{LineAnswer}
 use Rattle.line.specs.Answer.{Answered}
 use Rattle.line.specs.Lent.{Placed}
@@ -16,7 +15,8 @@ use Rattle.list.specs.declared.state.Stage.{Stage}
 use Rattle.list.specs.declared.state.Stage.the-variants.{Header, Rows, Stopped}
 use Rattle.list.specs.declared.state.State.{State}
 use Rattle.list.specs.declared.feeding.Fed.{Fed}
-use Rattle.list.specs.Lines.{lastByte, allButLast, endsLine, ended, begun}
+use Rattle.lines.specs.Lines.{allButLast, endsLine, ended, begun}
+use Rattle.lines.specs.Held.{capped}
 use Rattle.list.specs.Lists.{same, inputHeader, outputHeader, wrongHeader}
 
 -- The number and the text that are due to a line: as the header, after the header, and after a wrong one, where nothing is read any more.
@@ -50,14 +50,7 @@ abbrev pub DueAtEnd : Stage → List ℕ → ℕ → List ℕ → Type 0
 DueAtEnd stage [] = DueToNone stage
 DueAtEnd stage (b ∷ s) = Due stage (b ∷ s)
 
--- Two bytes more than the longest line, so that all but the last byte held of a longer one is still longer than a line may be.
-abbrev pub mostHeld : ℕ
-mostHeld = longestLine + 2
-
--- What is held of what there is of a line: of more than that, as many bytes less one, and the last byte, which tells whether a LF ends the line.
-abbrev pub capped : List ℕ → List ℕ
-capped line = if leb (length line) mostHeld then line else take (mostHeld - 1) line ++ (lastByte line ∷ [])
-
+-- What is held of a line, of which there may be more.
 abbrev pub lineOf : State → List ℕ
 lineOf st = take (st .count) (st .held)
 
@@ -90,8 +83,9 @@ abbrev pub EndedAs : State → List ℕ → List ℕ → LineAnswer → Type 0
 EndedAs st = EndedWith (st .stage) (lineOf st)
 
 -- A run from a state over the input to come, with all that it writes: chunks of any size are fed with buffers of any size, bytes that a feeding did not use are
--- fed again, and at the end of the input what is still due is written.
+-- fed again, and at the end of the input what is still due is written. After a wrong header a run may stop and leave the rest of the input unread.
 pub data Run : State → List ℕ → List ℕ → Type 0 where
   finish : {st : State} (out out′ : List ℕ) (x : LineAnswer) → EndedAs st out out′ x → (x .code ≡ numberOf BufferShort → ⊥) → Run st [] (take (x .wrote) out′)
   feed : {st : State} {output : List ℕ} (chunk more out out′ : List ℕ) (x : Fed) → FedAs st chunk out out′ x
       → Run (x .state) (drop (x .used) chunk ++ more) output → Run st (chunk ++ more) (take (x .wrote) out′ ++ output)
+  stop : {st : State} (unread : List ℕ) → st .stage ≡ Stopped → Run st unread []

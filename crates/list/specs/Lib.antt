@@ -1,5 +1,4 @@
-pub mod Lines
 pub mod Lists
 pub mod Feeding
-pub mod Scanning
+pub mod Replies
 pub mod Promised

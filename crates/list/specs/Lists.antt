@@ -7,7 +7,7 @@ use lib.Dec.{eqb}
 use Rattle.whole.specs.Choice.{if_then_else_}
 use Rattle.whole.specs.Text.{ascii}
 use Rattle.line.specs.Answer.{Answered, illFormedLine}
-use Rattle.list.specs.Lines.{lines}
+use Rattle.lines.specs.Lines.{lines}
 
 abbrev pub inputHeader : List ℕ
 inputHeader = ascii "id,law,r,r0,a,b,c,d,wal"

@@ -7,10 +7,10 @@ ghost use lib.ListN.{take};
 ghost use Rattle.whole.specs.Choice.{if_then_else_};
 ghost use Rattle.line.specs.Lent.{Placed};
 ghost use Rattle.list.specs.Lists.{wrongHeader};
-ghost use Rattle.list.specs.Feeding.{mostHeld, lineOf, FedAs, EndedWith, EndedAs};
-ghost use Rattle.list.specs.Scanning.{RepliedAs};
+ghost use Rattle.lines.specs.Held.{mostHeld};
+ghost use Rattle.list.specs.Feeding.{lineOf, FedAs, EndedWith, EndedAs};
+ghost use Rattle.list.specs.Replies.{RepliedAs};
 use crate::header;
-use crate::scanning;
 use crate::state::Stage;
 use crate::state::State;
 use line::LineAnswer;
@@ -78,9 +78,9 @@ fn feed_lines(first: State, chunk: &[u8], out: &mut [u8]) -> Fed
     let mut from = 0;
     let mut at = 0;
     while from < chunk.len() {
-        let end = from + scanning::line_end(0, &chunk[from..]);
+        let end = from + lines::line_end(0, &chunk[from..]);
         if end == chunk.len() {
-            let count = scanning::append(&mut held, 0, &chunk[from..]);
+            let count = lines::append(&mut held, 0, &chunk[from..]);
             return Fed {
                 state: State { held, count, stage },
                 used: end,
@@ -90,7 +90,7 @@ fn feed_lines(first: State, chunk: &[u8], out: &mut [u8]) -> Fed
         let r = reply_to(stage, &chunk[from..end - 1], &mut out[at..]);
         let x = r.answer;
         if x.code == NO_ROOM {
-            let count = scanning::append(&mut held, 0, &chunk[from..end]);
+            let count = lines::append(&mut held, 0, &chunk[from..end]);
             return Fed {
                 state: State { held, count, stage },
                 used: end,
@@ -126,8 +126,8 @@ fn feed_held(state: State, begun: usize, chunk: &[u8], out: &mut [u8]) -> Fed
 {
     let mut held = state.held;
     let stage = state.stage;
-    let end = scanning::line_end(held[begun - 1], chunk);
-    let count = scanning::append(&mut held, begun, &chunk[..end]);
+    let end = lines::line_end(held[begun - 1], chunk);
+    let count = lines::append(&mut held, begun, &chunk[..end]);
     let unanswered = Fed {
         state: State { held, count, stage },
         used: end,

@@ -1,7 +1,6 @@
 // A whole list, fed in chunks of any size and answered into buffers of any size, with constant memory.
 mod feeding;
 mod header;
-mod scanning;
 mod state;
 
 pub use feeding::Fed;

@@ -14,7 +14,7 @@ use Rattle.scale.specs.Subranges.{carried}
 use Rattle.scale.specs.Deviation.{fine}
 use Rattle.reference.specs.Reference.{working, last, pastLast}
 use Rattle.reference.proofs.Rising.{one-up, between-ends}
-use Rattle.reference.proofs.Values.{card-1, at-past-last}
+use Rattle.reference.proofs.Values.{at-zero, at-past-last}
 use Rattle.certificate.specs.declared.certificate.Certificate.{Certificate}
 use Rattle.certificate.specs.Certificate.{sound}
 use Rattle.deviation.specs.Working.{deviation, Wr}
@@ -35,7 +35,7 @@ module _ (k : Certificate) (e : sound k ≡ true) (step : ℤ) (p : pos 0 ≤ℤ
   pub under-all : Wr k 0 <ℤ working step
   unfolding Wr
   under-all =
-      omega (ints, deviation-size k (sized k e) 0 (omega arith), abs-parts (deviation k 0), sub-parts (pos (fine * 0)) (deviation k 0), between-ends step p (omega (ints, q)) .0, card-1)
+      omega (ints, deviation-size k (sized k e) 0 (omega arith), abs-parts (deviation k 0), sub-parts (pos (fine * 0)) (deviation k 0), between-ends step p (omega (ints, q)) .0, at-zero)
 
   pub over-all : working step ≤ℤ Wr k largestRatio
   unfolding Wr

@@ -1,6 +1,6 @@
 pub mod Ends
 pub mod Outcomes
+pub mod Tests
 pub mod Ways
 pub mod Demand
 pub mod Unique
-pub mod Values

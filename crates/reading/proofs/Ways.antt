@@ -11,14 +11,13 @@ use borrow.Author.Tests.{le-ltb}
 use Rattle.whole.specs.Choice.{if_then_else_}
 use Rattle.whole.proofs.Machine.{lt-no}
 use Rattle.whole.proofs.Parts.{up, dn, ints, add-parts}
-use Rattle.whole.proofs.Largest.{largest-by-next}
 use Rattle.quantity.specs.Quantities.{ratioOf, largestRatio}
 use Rattle.scale.specs.declared.subrange.Subrange.{Subrange}
 use Rattle.scale.specs.declared.law.Law.{Law}
 use Rattle.scale.specs.declared.law.Law.the-variants.{Scale}
 use Rattle.scale.specs.Subranges.{carried}
-use Rattle.reference.specs.Reference.{working, last, pastLast}
-use Rattle.reference.proofs.Rising.{climb, one-up}
+use Rattle.reference.specs.Reference.{working, last}
+use Rattle.reference.proofs.Rising.{climb}
 use Rattle.certificate.specs.declared.certificate.Certificate.{Certificate}
 use Rattle.certificate.specs.Certificate.{certificateOf, sound, givenThen}
 use Rattle.deviation.specs.Working.{Wr}
@@ -28,8 +27,8 @@ use Rattle.reading.specs.Reading.{Outcome, refused, ReadRatio, ReadBy}
 use Rattle.reading.specs.Forward as forward
 use Rattle.reading.specs.Forward.{Least, ForwardBy}
 use Rattle.reading.specs.Promised.{HasRatio, ReadsBack}
-use Rattle.reading.proofs.Ends.{tops, not-falling, under-all, over-all}
-use Rattle.reading.proofs.Outcomes.{reads-step}
+use Rattle.reading.proofs.Ends.{tops, under-all, over-all}
+use Rattle.reading.proofs.Tests.{between}
 use Rattle.reading.proofs.Unique.{read-unique}
 
 module _ (k : Certificate) (e : sound k ≡ true) (step : ℤ) where
@@ -68,17 +67,7 @@ bracket k e step (suc w) p q l =
 
 -- so the ratio reads the step
 reads-ratio : (k : Certificate) (s : Subrange) → sound k ≡ true → k .law ≡ Scale s → (step : ℤ) (w : ℕ) → pos 0 ≤ℤ step → step ≤ℤ carried s .top → Least k step w → ReadRatio k w (record { code = 0; law = some (Scale s); step = step })
-reads-ratio k s e is step w p q l =
-    let t = tops s in
-    let top = carried s .top in
-    let b = bracket k e step w p (omega (ints, q, t)) l in
-    let n = add-parts top (pos 1) in
-    let m = add-parts step (pos 1) in
-    let rise : (u : ℤ) → pos 0 ≤ℤ u → u <ℤ (top +ℤ pos 1) → working u <ℤ working (u +ℤ pos 1) = λ u a h. one-up u a (omega (ints, h, t, n)) in
-    reads-step k (Scale s) is w step
-    (omega (ints, l .enough, not-falling (pos 0) step (omega ints) p (omega (ints, q, t))))
-    (omega (ints, b, not-falling (step +ℤ pos 1) (top +ℤ pos 1) (omega (ints, m, p)) (omega (ints, m, n, q)) (omega (ints, n, t))))
-    (largest-by-next working (pos 0) top rise (Wr k w) step p q (l .enough) b)
+reads-ratio k s e is step w p q l = between k (Scale s) is w step p q (l .enough) (bracket k e step w p (omega (ints, q, tops s .1)) l)
 
 -- ---- of the calls
 module _ (s : Subrange) (a b c d : ℤ) (wal : ℕ) (step : ℤ) (f : forward.Outcome) (z : f .code ≡ 0) where

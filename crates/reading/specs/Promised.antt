@@ -48,7 +48,7 @@ AnswersOrdered =
     → o .code ≡ 0 → o′ .code ≡ 0 → r ≤ r′ → o .step ≤ℤ o′ .step
 
 -- ---- forward on the scale
--- Every step of the subrange of a sound certificate has its ratio.
+-- By a sound certificate every step of a subrange has its ratio.
 abbrev pub HasRatio : Type 0
 HasRatio =
     (k : Certificate) (s : Subrange) → sound k ≡ true → (step : ℤ) → first (Scale s) ≤ℤ step → step ≤ℤ last (Scale s)

@@ -4,3 +4,4 @@ pub mod Fields
 pub mod Offsets
 pub mod Scan
 pub mod Joined
+pub mod Unique

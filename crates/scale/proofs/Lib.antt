@@ -1,3 +1,4 @@
 pub mod Deviations
 pub mod Names
 pub mod Subranges
+pub mod Unique

@@ -3,7 +3,7 @@ use native.Mathlib.Omega.{arith}
 use mir.Facts.{toZ-ofZ}
 use Rattle.whole.proofs.Parts.{ints}
 use Rattle.whole.proofs.Machine.{back, le-yes, le-no, lt-yes, lt-no}
-use Rattle.reference.proofs.Values.{card-1, at-past-last}
+use Rattle.reference.proofs.Values.{at-zero, at-past-last}
 use Rattle.reference.proofs.invert.Statement.{statement}
 use Rattle.reference.proofs.invert.Tie as tie
 
@@ -11,7 +11,7 @@ less-requires : tie.Need-less-requires
 less-requires c κs = search needs
 
 returns : tie.Need-returns
-returns c = rw card-1 (lt-yes (rw (toZ-ofZ (c .before .before .fits .value)) at (c .before .less .ensures)) (c .if1 .taken))
+returns c = rw at-zero (lt-yes (rw (toZ-ofZ (c .before .before .fits .value)) at (c .before .less .ensures)) (c .if1 .taken))
 
 at-most-requires : tie.Need-at-most-requires
 at-most-requires c κs = search needs
@@ -22,7 +22,7 @@ returns-2 c =
 
 search-requires : tie.Need-search-requires
 search-requires c κs = (
-  (rw card-1 (lt-no (c .before .before .before .less .ensures) (c .before .before .if1 .left)), rw at-past-last (le-no (c .before .at-most .ensures) (c .if2 .left))),
+  (rw at-zero (lt-no (c .before .before .before .less .ensures) (c .before .before .if1 .left)), rw at-past-last (le-no (c .before .at-most .ensures) (c .if2 .left))),
   (omega arith, omega arith),
 )
 

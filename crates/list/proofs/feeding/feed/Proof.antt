@@ -1,5 +1,6 @@
 use Rattle.list.proofs.Feeds.{held-is, none-held}
-use Rattle.list.specs.Feeding.{mostHeld, lineOf}
+use Rattle.lines.specs.Held.{mostHeld}
+use Rattle.list.specs.Feeding.{lineOf}
 use lib.ListN.{length, take}
 use Prim.Native.Nat.{ℕ, _≤_}
 use native.Mathlib.Omega.{arith}

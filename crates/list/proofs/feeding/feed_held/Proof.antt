@@ -1,8 +1,10 @@
 use Rattle.list.proofs.Feeds.{Written, replied-written, replied-short, last-held, some-held, held-begun, held-full, held-rest, part-is, put-last, fed-long}
-use Rattle.list.proofs.Lines.{front-take}
-use Rattle.list.specs.Scanning.{EndsAt, RepliedAs}
-use Rattle.list.specs.Feeding.{mostHeld, capped, lineOf, FedAs}
-use Rattle.list.specs.Lines.{lastByte, allButLast}
+use Rattle.lines.proofs.Lines.{front-take}
+use Rattle.lines.specs.Ends.{EndsAt}
+use Rattle.list.specs.Replies.{RepliedAs}
+use Rattle.lines.specs.Held.{mostHeld, capped}
+use Rattle.list.specs.Feeding.{lineOf, FedAs}
+use Rattle.lines.specs.Lines.{lastByte, allButLast}
 use Rattle.list.specs.declared.feeding.Fed.{Fed}
 use Rattle.list.specs.declared.state.State.{State}
 use borrow.Rule.Slice.PartMut.{putMid}

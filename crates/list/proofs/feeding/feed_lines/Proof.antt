@@ -2,9 +2,9 @@ use Rattle.list.proofs.Feeds.{fed-from}
 use Rattle.list.proofs.Feeds.{Written}
 use borrow.Rule.Slice.PartMut.{putMid}
 use mathlib.Core.Bool.{Bool}
-use Rattle.list.proofs.Lines.{ends-after-some}
+use Rattle.lines.proofs.Lines.{ends-after-some}
 use Rattle.list.proofs.Feeds.{part-is, put-last, fed-long}
-use Rattle.list.specs.Scanning.{RepliedAs}
+use Rattle.list.specs.Replies.{RepliedAs}
 use borrow.Author.Needs.{needs}
 use mathlib.Core.Path.{_≡_, refl, sym, ap, _∙_, subst}
 use mathlib.Core.List.{List, [], _++_}
@@ -15,9 +15,10 @@ use lib.Seq.{length-take-le, take-all}
 use Rattle.list.specs.declared.state.Stage.{Stage}
 use Rattle.list.specs.declared.state.State.{State}
 use Rattle.list.specs.declared.feeding.Fed.{Fed}
-use Rattle.list.specs.Lines.{lastByte, begun}
-use Rattle.list.specs.Feeding.{mostHeld, capped, lineOf, FedAs}
-use Rattle.list.specs.Scanning.{EndsAt, EndsAfter}
+use Rattle.lines.specs.Lines.{lastByte, begun}
+use Rattle.lines.specs.Held.{mostHeld, capped}
+use Rattle.list.specs.Feeding.{lineOf, FedAs}
+use Rattle.lines.specs.Ends.{EndsAt, EndsAfter}
 use Rattle.list.proofs.Feeds.{At, at-start, at-long, fed-all, fed-begun, fed-full, at-more, replied-written, replied-short}
 use Rattle.list.proofs.feeding.feed_lines.Statement.{statement}
 use Rattle.list.proofs.feeding.feed_lines.Tie as tie

@@ -1,5 +1,6 @@
 use Rattle.list.proofs.Feeds.{held-is, due-last}
-use Rattle.list.specs.Feeding.{mostHeld, lineOf, DueAtEnd, EndedWith}
+use Rattle.lines.specs.Held.{mostHeld}
+use Rattle.list.specs.Feeding.{lineOf, DueAtEnd, EndedWith}
 use lib.Seq.{length-take-le}
 use lib.ListN.{length, getD, take, drop}
 use Prim.Native.Nat.{ℕ, _+_, _-_, _≤_, _<_}

@@ -1,4 +1,4 @@
-use Rattle.list.specs.Feeding.{mostHeld}
+use Rattle.lines.specs.Held.{mostHeld}
 use borrow.Author.Tests.{le-leb, lt-leb}
 use native.Mathlib.Omega.{arith}
 use mathlib.Core.Path.{_≡_, refl, sym, ap, _∙_, subst}

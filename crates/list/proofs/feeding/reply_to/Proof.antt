@@ -1,5 +1,5 @@
 use Rattle.list.specs.declared.state.Stage.the-variants.{Rows, Stopped}
-use Rattle.list.specs.Scanning.{RepliedAs}
+use Rattle.list.specs.Replies.{RepliedAs}
 use Rattle.list.specs.declared.state.Stage.{Stage}
 use Rattle.line.proofs.Placing.{placed}
 use Prim.Native.Nat.{zero-le}

@@ -1,0 +1,103 @@
+-- The bench cards that are proved: one table of inputs and outcomes.
+use mathlib.Core.Path.{_≡_}
+use mathlib.Core.List.{List, [], _∷_}
+use mathlib.Core.Option.{Option}
+use Prim.Native.Nat.{ℕ}
+use lib.IntN.{ℤ, pos, negℤ}
+use Rattle.quantity.specs.RatioAnswer.{ratioAnswer}
+use Rattle.reference.specs.Reference.{working}
+use Rattle.scale.specs.declared.law.Law.{Law}
+use Rattle.scale.specs.Names.{spelled}
+use Rattle.scale.specs.Subranges.{lawNamed}
+use Rattle.certificate.specs.declared.record.Record.{Record}
+use Rattle.certificate.specs.Certificate as certificate
+use Rattle.certificate.specs.Record.{recordAnswer}
+use Rattle.reading.specs.Reading as reading
+
+-- What is read: a step, or the number given instead.
+pub data Reads : Type 0 where
+  step : ℤ → Reads
+  number : ℕ → Reads
+
+-- The outcome, by a law where there is one.
+abbrev pub readBy : Option Law → Reads → reading.Outcome
+readBy law (step t) = record { code = 0; law = law; step = t }
+readBy law (number n) = reading.refused n
+
+-- What a record gives: the five places of a certificate, or the number given instead.
+pub data Gives : Type 0 where
+  places : ℤ → ℤ → ℤ → ℤ → ℕ → Gives
+  number : ℕ → Gives
+
+abbrev pub givenBy : Option Law → Gives → certificate.Outcome
+givenBy law (places a b c d wal) = record { code = 0; law = law; a = a; b = b; c = c; d = d; wal = wal }
+givenBy law (number n) = certificate.refused n
+
+pub data Card : Type 0 where
+  -- a step, and the working value of the reference function there
+  works : ℤ → ℤ → Card
+  -- the name of a law, a, b, c, d and W(Al), a ratio W, and what it reads
+  reads : ℕ → ℤ → ℤ → ℤ → ℤ → ℕ → ℕ → Reads → Card
+  -- a record, and what it gives
+  gives : Record → Gives → Card
+
+-- What a card says of the definitions. A card of a ratio speaks of every R and R0 that have it, and its reading names the law that the card names.
+abbrev pub Holds : Card → Type 0
+Holds (works t value) = working t ≡ value
+Holds (reads name a b c d wal w x) =
+    (r r0 : ℕ) → ratioAnswer r r0 ≡ record { code = 0; ratio = w } → reading.ReadNamed name a b c d wal r r0 (readBy (lawNamed name) x)
+Holds (gives ratios x) = recordAnswer ratios ≡ givenBy (lawNamed (ratios .subrange .0)) x
+
+-- ---- the table
+
+-- by the ag certificate of zeros whose W(Al) is 3.3760086, and by the curve
+abbrev zeros : ℕ → Reads → Card
+zeros = reads (spelled "ag") (pos 0) (pos 0) (pos 0) (pos 0) 3_376_008_600
+
+abbrev curve : ℕ → Reads → Card
+curve = reads (spelled "curve") (pos 0) (pos 0) (pos 0) (pos 0) 0
+
+-- a record with gallium and indium alone, and a certificate with a alone
+abbrev low : ℕ → ℕ → ℕ → Gives → Card
+low name gallium indium =
+    gives
+    (record {
+      subrange = record { 0 = name };
+      mercury = record { 0 = 0 };
+      gallium = record { 0 = gallium };
+      indium = record { 0 = indium };
+      tin = record { 0 = 0 };
+      zinc = record { 0 = 0 };
+      aluminium = record { 0 = 0 };
+      silver = record { 0 = 0 };
+    })
+
+abbrev onlyA : ℤ → Gives
+onlyA a = places a (pos 0) (pos 0) (pos 0) 0
+
+-- Cards 1 to 8.
+abbrev pub cards : List Card
+cards =
+    works (pos 0) (pos 99_996_011_000)
+    ∷ works (pos 4_810_000) (pos 278_157_254_000)
+    ∷ zeros 2_781_572_540 (step (pos 4_810_000))
+    ∷ zeros 2_781_572_539 (step (pos 4_809_999))
+    ∷ zeros 999_960_110 (step (pos 0))
+    ∷ zeros 999_960_109 (number 8)
+    ∷ low (spelled "ga") 1_118_070_000 0 (onlyA (negℤ (pos 58_346_744)))
+    ∷ low (spelled "ga") 1_118_069_999 0 (number 6)
+    ∷ low (spelled "in") 1_118_138_890 1_609_701_850 (onlyA (negℤ (pos 16_401_460)))
+    ∷ curve 1_385_055_000 (step (pos 1_000_000))
+    ∷ curve 185_200_800 (step (negℤ (pos 2_000_000)))
+    ∷ curve 185_200_799 (number 8)
+    ∷ curve 3_904_811_542 (step (pos 8_500_000))
+    ∷ curve 3_904_811_543 (number 9)
+    ∷ []
+
+-- Each card of a list holds.
+abbrev pub Each : List Card → Type 0
+Each [] = Unit {0}
+Each (card ∷ more) = Holds card × Each more
+
+abbrev pub CardsHold : Type 0
+CardsHold = Each cards

@@ -1,0 +1,4 @@
+pub mod Lines
+pub mod Capped
+pub mod Scan
+pub mod Unique

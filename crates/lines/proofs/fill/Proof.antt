@@ -1,0 +1,40 @@
+use Rattle.lines.proofs.Scan.{fill-copied, fill-full}
+use lib.ListN.{length, take}
+use lib.Seq.{length-take-le}
+use Prim.Native.Nat.{_-_}
+use native.Mathlib.Omega.{arith}
+use mathlib.Core.Path.{_≡_, sym}
+use borrow.Author.Needs.{needs}
+use Rattle.lines.proofs.fill.Statement.{statement}
+use Rattle.lines.proofs.fill.Tie as tie
+
+sub-copy : tie.Need-sub-copy
+sub-copy c = search needs
+
+slice-aggregate-copy : tie.Need-slice-aggregate-copy
+slice-aggregate-copy c =
+    let a = c .before .before .before .before .before in
+    sym (length-take-le (201 - a .args .count) (a .args .s .now) (omega (arith, a .pre, c .before .before .if1 .taken)))
+
+copy-requires : tie.Need-copy-requires
+copy-requires c κs =
+    let a = c .before .before .before .before .before in
+    let l : length (take (201 - a .args .count) (a .args .s .now)) ≡ 201 - a .args .count = length-take-le (201 - a .args .count) (a .args .s .now) (omega (arith, a .pre, c .before .before .if1 .taken)) in
+    omega (arith, l, a .pre, c .before .before .if1 .taken)
+
+same-length : tie.Need-same-length
+same-length c = search needs
+
+returns : tie.Need-returns
+returns c =
+    let a = c .before .before .before .before .before .before .before .before in
+    fill-copied (a .args .held .now) (a .args .s .now) (a .args .count) (a .pre .0) (c .before .before .copy .last .0) (c .before .before .before .before .before .if1 .taken) (a .pre .2) (c .before .before .copy .ensures)
+
+returns-2 : tie.Need-returns-2
+returns-2 c =
+    let a = c .before .before .before in
+    fill-full (a .args .held .now) (a .args .s .now) (a .args .count) (a .pre .0) (a .pre .1) (c .if1 .left)
+
+pub fill-spec : {M : Type 1} → statement M
+fill-spec =
+    tie.close (tie.spec sub-copy slice-aggregate-copy copy-requires same-length returns returns-2)
