@@ -32,7 +32,7 @@ use Rattle.deviation.specs.Working.{hasDTerm, z, dTerm, deviation, Wr}
 use Rattle.reading.specs.Reading.{refused, ReadRatio, ReadBy}
 use Rattle.reading.proofs.Outcomes.{ratio-read}
 use Rattle.reading.proofs.Tests.{stepTest, step-passes, refusalTest, refusal-passes}
-use Rattle.cards.specs.Cards.{Reads, step, number, readBy, Gives, givenBy, Card, works, reads, gives, Holds, cards, Each, CardsHold}
+use Rattle.cards.specs.Cards.{Reads, step, number, readBy, givenBy, Card, works, reads, gives, Holds, cards, Each, CardsHold}
 
 -- ---- two numbers are the same
 abbrev same : ℤ → ℤ → Bool

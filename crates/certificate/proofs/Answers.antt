@@ -1,9 +1,8 @@
 -- What an answer to a given certificate says: callers need not open the tests.
-use mathlib.Core.Path.{_≡_, refl, sym, _∙_, ap, subst}
+use mathlib.Core.Path.{_≡_, refl, sym, ap, subst}
 use mathlib.Core.Bool.{Bool, true, false, not}
 use mathlib.Core.Option.{Option, none, some}
 use Prim.Native.Nat.{ℕ}
-use native.Mathlib.Omega.{arith}
 use lib.IntN.{ℤ}
 use Rattle.whole.specs.Choice.{if_then_else_}
 use Rattle.quantity.specs.declared.refusal.Refusal.{Refusal}

@@ -1,28 +1,27 @@
 -- What the tests of a record say of its cells, over the cell list.
-use mathlib.Core.Path.{_≡_, refl, sym, _∙_}
+use mathlib.Core.Path.{_≡_, refl, sym}
 use mathlib.Core.Bool.{Bool, true, false, true≢false, _&&_, not}
 use mathlib.Core.List.{List, [], _∷_, map}
-use Prim.Native.Nat.{ℕ, _+_, _*_, _<_, _≤_}
+use Prim.Native.Nat.{ℕ, _+_, _*_, _≤_}
 use native.Mathlib.Omega.{arith}
 use borrow.Author.Tests.{ltb-false, leb-true}
 use lib.Dec.{ltb}
-use lib.IntN.{ℤ, pos, negℤ, natAbs, _+ℤ_}
+use lib.IntN.{ℤ, pos, natAbs, _+ℤ_}
 use lib.Signed.{_≤ℤ_}
 use Rattle.whole.specs.Any.{any}
 use Rattle.whole.proofs.Any.{or-false}
-use Rattle.whole.proofs.Parts.{up, dn, ints, one-part, abs-parts, add-parts}
+use Rattle.whole.proofs.Parts.{ints, one-part, abs-parts, add-parts}
 use Rattle.quantity.specs.Quantities.{one, largestRatio}
 use Rattle.scale.specs.declared.cell.Cell.{Cell}
 use Rattle.scale.specs.declared.cell.Cell.the-variants.{Hg, Ga, In, Sn, Zn, Al, Ag}
 use Rattle.scale.specs.declared.subrange.Subrange.{Subrange}
 use Rattle.scale.specs.declared.subrange.Subrange.the-variants as subrange
 use Rattle.certificate.specs.declared.record.Record.{Record}
-use Rattle.fit.specs.declared.Point.{Point}
 use Rattle.scale.specs.Cells.{Wr, allCells}
 use Rattle.scale.specs.Subranges.{cells}
 use Rattle.scale.specs.Deviation.{fine, x, δ, keeps, within}
 use Rattle.certificate.specs.Record.{ratio, measured, ratioAbove, cellMissing, deviates, point}
-use Rattle.fit.specs.Room.{Kept, Spread, wide, narrow, leastGap, Roomy}
+use Rattle.fit.specs.Room.{Kept, Spread, wide, narrow, Roomy}
 use Rattle.scale.proofs.Deviations.{x-parts, δ-parts}
 use Rattle.fit.proofs.Sizes as sizes
 

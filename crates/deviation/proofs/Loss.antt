@@ -1,5 +1,5 @@
 -- How far Wr is from W less the exact deviation: three roundings with |x| up to 3.4 and two with z up to 1.03 lose less than 18 units.
-use mathlib.Core.Path.{_≡_, refl, sym, _∙_}
+use mathlib.Core.Path.{_≡_, refl, _∙_}
 use mathlib.Core.Bool.{Bool, true, false}
 use mathlib.Core.List.{[], _∷_}
 use Prim.Native.Nat.{ℕ, _+_, _*_, _<_, _≤_, _^_}
@@ -7,9 +7,9 @@ use native.Mathlib.Omega.{arith}
 use lib.Signed.{_<ℤ_}
 use lib.IntN.{ℤ, pos, natAbs, pow, one as oneℤ, _+ℤ_, _-ℤ_, _*ℤ_, *ℤ-comm, *ℤ-one, +ℤ-idl, +ℤ-assoc, zero-*ℤ}
 use Rattle.whole.specs.Choice.{if_then_else_}
-use Rattle.whole.proofs.Parts.{up, dn, ints, one-part, abs-parts, add-parts, sub-parts, mul-parts}
+use Rattle.whole.proofs.Parts.{ints, one-part, abs-parts, add-parts, sub-parts, mul-parts}
 use Rattle.whole.proofs.Ring.{*ℤ-assoc, *ℤ-distribˡ, *ℤ-subʳ}
-use Rattle.polynomial.specs.Fraction.{Fraction, integer, _+ᶠ_, _-ᶠ_, _*ᶠ_, _^ᶠ_}
+use Rattle.polynomial.specs.Fraction.{integer, _+ᶠ_, _*ᶠ_, _^ᶠ_}
 use Rattle.polynomial.specs.Polynomial.{rounded}
 use Rattle.polynomial.proofs.Fractions.{Is, is-itself, is-integer, is-scaled, is-add, is-sub, is-times, is-power, is-<, scaled}
 use Rattle.polynomial.proofs.Loss.{loss, lost}

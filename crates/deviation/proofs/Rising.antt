@@ -1,6 +1,5 @@
 -- Wr rises with the ratio: by 75 to 125 units of 10^-11 from one ratio to the next, across W(Al) too.
-use mathlib.Core.Path.{_≡_, refl}
-use mathlib.Core.Bool.{true, false}
+use mathlib.Core.Path.{_≡_}
 use mathlib.Core.List.{[], _∷_}
 use Prim.Native.Nat.{ℕ, zero, suc, _+_, _*_, _<_, _≤_}
 use native.Mathlib.Decide.{decLt}
@@ -15,9 +14,9 @@ use Rattle.quantity.specs.Quantities.{one, largestRatio}
 use Rattle.scale.specs.Deviation.{fine, x, plainDeviation}
 use Rattle.scale.proofs.Deviations as scale
 use Rattle.certificate.specs.declared.certificate.Certificate.{Certificate}
-use Rattle.deviation.specs.Working.{hasDTerm, z, dTerm, deviation, Wr}
+use Rattle.deviation.specs.Working.{z, dTerm, deviation, Wr}
 use Rattle.deviation.specs.Promised.{Increasing}
-use Rattle.deviation.proofs.Sized.{Sized, sized, counted, Next, neither, starts, both, next, z-parts, abc, od, x-size, z-size}
+use Rattle.deviation.proofs.Sized.{Sized, sized, Next, neither, starts, both, next, z-parts, abc, od, x-size, z-size}
 
 x-next : (w : ℕ) → x (suc w) ≡ x w +ℤ pos 1
 x-next w = omega (ints, scale.x-parts w, scale.x-parts (suc w), add-parts (x w) (pos 1))

@@ -1,15 +1,15 @@
 -- What a sound certificate says of its numbers, and how large the two parts of its deviation get.
-use mathlib.Core.Path.{_≡_, refl, sym, _∙_, subst}
+use mathlib.Core.Path.{_≡_, refl}
 use mathlib.Core.Bool.{Bool, true, false, _&&_}
 use mathlib.Core.List.{[], _∷_}
-use Prim.Native.Nat.{ℕ, suc, _+_, _*_, _<_, _≤_}
+use Prim.Native.Nat.{ℕ, suc, _+_, _*_, _≤_}
 use native.Mathlib.Omega.{arith}
 use borrow.Author.Tests.{leb-true, leb-false, eqb-true}
 use lib.Dec.{leb, ltb, eqb}
-use lib.IntN.{ℤ, pos, natAbs, _+ℤ_, _-ℤ_}
+use lib.IntN.{ℤ, pos, natAbs}
 use Rattle.whole.specs.Choice.{if_then_else_}
 use Rattle.whole.proofs.Choice.{and-true}
-use Rattle.whole.proofs.Parts.{up, dn, ints, one-part, abs-parts, add-parts, sub-parts}
+use Rattle.whole.proofs.Parts.{up, dn, one-part, abs-parts, sub-parts}
 use Rattle.whole.proofs.Size.{abs-add}
 use Rattle.polynomial.specs.Polynomial.{rounded}
 use Rattle.polynomial.proofs.Sizes.{size, Bounded, none, and, abs-rounded}

@@ -1,22 +1,22 @@
 -- How large the numbers on the way to the coefficients get, from cells that keep their limit and lie apart.
-use mathlib.Core.Path.{_≡_, refl}
+use mathlib.Core.Path.{_≡_}
 use mathlib.Core.List.{[], _∷_}
-use Prim.Native.Nat.{ℕ, _+_, _*_, _/_, _<_, _≤_, _^_}
+use Prim.Native.Nat.{ℕ, _+_, _*_, _/_, _<_, _≤_}
 use native.Mathlib.Nat.{mul-le-mul-right, le-trans}
 use native.Mathlib.Omega.{arith}
 use borrow.Author.Tests.{leb-true}
 use lib.IntN.{ℤ, pos, natAbs, _+ℤ_, _-ℤ_, _*ℤ_}
-use lib.Signed.{_≤ℤ_, _<ℤ_}
+use lib.Signed.{_≤ℤ_}
 use mir.Syntax.{w64}
 use mir.Val.{SFits}
-use Rattle.whole.proofs.Parts.{up, dn, ints, one-part, abs-parts, add-parts, sub-parts}
-use Rattle.whole.proofs.Size.{abs-mul, abs-add, abs-sub, abs-product, abs→fits}
+use Rattle.whole.proofs.Parts.{ints, one-part, abs-parts, add-parts, sub-parts}
+use Rattle.whole.proofs.Size.{abs-sub, abs-product, abs→fits}
 use Rattle.whole.proofs.Rounding.{abs-floor, quotient-within}
-use Rattle.quantity.specs.Quantities.{one, largestRatio}
+use Rattle.quantity.specs.Quantities.{one}
 use Rattle.fit.specs.declared.Point.{Point}
 use Rattle.scale.specs.Deviation.{fine, keeps}
 use Rattle.fit.specs.Fit.{_·_, _÷_, q, r}
-use Rattle.fit.specs.Room.{Kept, Spread, wide, narrow}
+use Rattle.fit.specs.Room.{Kept, Spread, wide}
 
 -- ---- products and quotients
 pub times-size : (n x : ℤ) (S R : ℕ) → natAbs n ≤ S → natAbs x ≤ R → natAbs (n · x) ≤ S * R / one + 1

@@ -2,7 +2,7 @@
 use mathlib.Core.Path.{_≡_, refl, sym, ap, _∙_, subst}
 use mathlib.Core.Bool.{Bool, true, false}
 use mathlib.Core.Option.{Option, none, some}
-use mathlib.Core.List.{List, [], _∷_, _++_, append-assoc, append-nil}
+use mathlib.Core.List.{List, _++_, append-assoc, append-nil}
 use native.Mathlib.Omega.{arith}
 use Prim.Native.Nat.{ℕ}
 use lib.IntN.{ℤ, pos, negsuc, natAbs}
@@ -25,7 +25,7 @@ use Rattle.row.specs.Rows.{wellFormed, idOf, lawOf, rowOf, parsedOf}
 use Rattle.row.proofs.Joined.{named}
 use Rattle.line.specs.declared.lent.LineAnswer.{LineAnswer}
 use Rattle.line.specs.Decimal.{decimal, signedDecimal}
-use Rattle.line.specs.Answer.{names, answerLine, ReadRow, Answered}
+use Rattle.line.specs.Answer.{names, answerLine, ReadRow}
 use Rattle.line.specs.Writing.{readText, refusedText}
 use Rattle.line.specs.Lent.{Placed, AnsweredInto}
 

@@ -1,9 +1,9 @@
 -- Texts written over a buffer.
-use mathlib.Core.Path.{_≡_, refl, sym, ap, _∙_}
+use mathlib.Core.Path.{_≡_, sym, ap, _∙_}
 use mathlib.Core.List.{List, [], _∷_, _++_, append-assoc}
 use native.Mathlib.Nat.{zero-add}
 use native.Mathlib.Omega.{arith}
-use Prim.Native.Nat.{ℕ, suc, _+_, _≤_, _<_}
+use Prim.Native.Nat.{ℕ, suc, _+_, _<_}
 use lib.ListN.{length, take, drop, set, getD, length-append}
 use lib.Seq.{take-append-seam, drop-append-add, drop-drop, take-suc, length-take-le, set-at, paste, take-length}
 use Rattle.line.specs.Writing.{over}

@@ -31,7 +31,7 @@ use Rattle.row.proofs.Joined.{named, id-short, law-short}
 use Rattle.line.specs.Decimal.{decimal, signedDecimal}
 use Rattle.line.specs.Answer.{Answered, RowAnswered, ReadRow, answerLine, illFormedLine, temperature}
 use Rattle.line.specs.declared.lent.LineAnswer.{LineAnswer}
-use Rattle.line.specs.Lent.{room, AnswersFit, Placed, AnsweredInto}
+use Rattle.line.specs.Lent.{room, AnswersFit, Placed}
 use Rattle.line.specs.Promised.{OneAnswer}
 use Rattle.line.proofs.Decimals.{few-digits}
 

@@ -3,7 +3,7 @@ use mathlib.Core.Path.{_≡_}
 use mathlib.Core.List.{List, _++_}
 use Prim.Native.Nat.{ℕ, _+_, _≤_}
 use lib.Dec.{leb}
-use lib.ListN.{length, take, drop}
+use lib.ListN.{length, drop}
 use Rattle.whole.specs.Choice.{if_then_else_}
 use Rattle.quantity.specs.Refusals.{numberOf}
 use Rattle.quantity.specs.declared.refusal.Refusal.the-variants.{BufferShort}

@@ -1,15 +1,12 @@
 -- What is due to a line is due to what is held of it.
-use mathlib.Core.Path.{_≡_, refl, sym, ap, ap₂, _∙_, subst}
-use mathlib.Core.Bool.{Bool, true, false, true≢false, _&&_}
-use mathlib.Core.List.{List, [], _∷_, _++_, append-assoc, append-nil}
-use Prim.Native.Nat.{ℕ, suc, _-_, _≤_, _<_}
-use Prim.Native.Char.{code}
+use mathlib.Core.Path.{_≡_, refl, sym, ap, _∙_, subst}
+use mathlib.Core.Bool.{Bool, true, false, true≢false}
+use mathlib.Core.List.{List, [], _∷_, _++_}
+use Prim.Native.Nat.{ℕ, _-_, _≤_, _<_}
 use native.Mathlib.Omega.{arith}
-use native.Mathlib.Decide.{decLe}
-use lib.Dec.{eqb}
-use lib.ListN.{length, take, length-append}
-use lib.Seq.{take-suc, take-all, take-append-le, take-at, length-take-le}
-use borrow.Author.Tests.{le-leb, lt-leb}
+use lib.ListN.{length}
+use lib.Seq.{length-take-le}
+use borrow.Author.Tests.{lt-leb}
 use Rattle.whole.specs.Choice.{if_then_else_}
 use Rattle.row.specs.Rows.{longestLine, wellFormed}
 use Rattle.line.specs.Answer.{RowAnswered, illFormedLine}
@@ -17,7 +14,7 @@ use Rattle.quantity.specs.Refusals.{numberOf}
 use Rattle.quantity.specs.declared.refusal.Refusal.the-variants.{IllFormed}
 use Rattle.list.specs.declared.state.Stage.{Stage}
 use Rattle.list.specs.declared.state.Stage.the-variants.{Header, Rows, Stopped}
-use Rattle.lines.specs.Lines.{lastByte, allButLast, endsLine, ended, begun}
+use Rattle.lines.specs.Lines.{allButLast, endsLine, ended}
 use Rattle.list.specs.Lists.{same, inputHeader, outputHeader, wrongHeader}
 use Rattle.lines.specs.Held.{mostHeld, capped}
 use Rattle.list.specs.Feeding.{Due, next, DueToAll, DueAtEnd}

@@ -10,11 +10,9 @@ use lib.Seq.{length-take-le, take-all, take-add, getD-take, getD-drop, drop-drop
 use borrow.Author.Tests.{leb-true, leb-false}
 use borrow.Rule.Slice.PartMut.{putMid}
 use Rattle.whole.specs.Choice.{if_then_else_}
-use Rattle.whole.proofs.Choice.{if-cases}
 use Rattle.quantity.specs.Refusals.{numberOf}
 use Rattle.quantity.specs.declared.refusal.Refusal.the-variants.{BufferShort}
 use Rattle.line.specs.declared.lent.LineAnswer.{LineAnswer}
-use Rattle.line.specs.Lent.{Placed}
 use Rattle.list.specs.declared.state.Stage.{Stage}
 use Rattle.list.specs.declared.state.Stage.the-variants.{Header, Rows, Stopped}
 use Rattle.list.specs.declared.state.State.{State}
@@ -22,7 +20,7 @@ use Rattle.list.specs.declared.feeding.Fed.{Fed}
 use Rattle.list.specs.declared.feeding.Reply.{Reply}
 use Rattle.lines.specs.Lines.{lastByte, allButLast, endsLine, ended, begun}
 use Rattle.lines.specs.Held.{mostHeld, capped}
-use Rattle.list.specs.Feeding.{Due, next, DueToAll, DueAtEnd, lineOf, Full, FedAs}
+use Rattle.list.specs.Feeding.{Due, next, DueToAll, DueAtEnd, lineOf, FedAs}
 use Rattle.lines.specs.Ends.{EndsAt}
 use Rattle.list.specs.Replies.{RepliedAs}
 use Rattle.lines.proofs.Lines.{front-take, ends-some, ended-append, begun-append, ended-one, begun-none, ended-before, begun-before, ends-here, begun-with, ended-with}

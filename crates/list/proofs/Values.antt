@@ -1,14 +1,14 @@
 -- The scope document's own list, byte for byte, which the checker computes.
 use mathlib.Core.Path.{_≡_, refl}
 use mathlib.Core.Option.{some}
-use mathlib.Core.List.{List, [], _∷_, _++_}
+use mathlib.Core.List.{List, [], _∷_}
 use native.Mathlib.Omega.{arith}
 use Prim.Native.Nat.{ℕ}
 use lib.IntN.{pos}
 use Rattle.whole.specs.Text.{ascii}
 use Rattle.polynomial.specs.Polynomial.{rounded}
 use Rattle.scale.specs.declared.law.Law.the-variants.{Curve, Scale}
-use Rattle.scale.specs.declared.subrange.Subrange.the-variants.{Ag, Zn}
+use Rattle.scale.specs.declared.subrange.Subrange.the-variants.{Ag}
 use Rattle.scale.specs.Deviation.{x, δ, keeps, plainDeviation}
 use Rattle.reference.specs.Reference.{working}
 use Rattle.curve.specs.Curve.{exact, quadratic, quartic, units}

@@ -2,12 +2,11 @@
 use mathlib.Core.Path.{_≡_}
 use Prim.Native.Nat.{ℕ, _+_, _*_, _≤_}
 use native.Mathlib.Nat.{mul-le-mul-right}
-use native.Mathlib.Omega.{arith}
-use lib.IntN.{ℤ, pos, _+ℤ_, _*ℤ_, *ℤ-comm}
+use lib.IntN.{ℤ, pos, _+ℤ_, _*ℤ_}
 use lib.Signed.{_≤ℤ_, _<ℤ_}
 use Rattle.whole.proofs.Parts.{ints, add-parts, mul-parts}
 use Rattle.whole.proofs.Ring.{*ℤ-assoc, *ℤ-distribʳ, *ℤ-swap, *ℤ-mono, *ℤ-strict}
-use Rattle.polynomial.specs.Fraction.{Fraction, integer, _+ᶠ_, _<ᶠ_, _≤ᶠ_, Within}
+use Rattle.polynomial.specs.Fraction.{Fraction, integer, _+ᶠ_, _≤ᶠ_, Within}
 
 -- the two halves of `Within`, in whole numbers
 over : (d : ℕ) (v : ℤ) (e : Fraction) → Within d v e → (v *ℤ pos (e .den)) <ℤ (e .num +ℤ pos (d * e .den))

@@ -3,9 +3,9 @@ use mathlib.Core.Path.{_≡_}
 use mathlib.Core.Bool.{true}
 use Prim.Native.Nat.{_*_, _≤_}
 use native.Mathlib.Omega.{arith}
-use lib.IntN.{ℤ, pos, _+ℤ_}
+use lib.IntN.{ℤ, pos}
 use lib.Signed.{_≤ℤ_, _<ℤ_}
-use Rattle.whole.proofs.Parts.{ints, abs-parts, sub-parts, add-parts}
+use Rattle.whole.proofs.Parts.{ints, abs-parts, sub-parts}
 use Rattle.whole.proofs.Rising as rising
 use Rattle.quantity.specs.Quantities.{largestRatio}
 use Rattle.scale.specs.declared.subrange.Subrange.{Subrange}

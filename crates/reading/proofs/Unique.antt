@@ -1,6 +1,6 @@
 -- A promise of a reading, of the way back or of a tolerance test allows one outcome only.
-use mathlib.Core.Path.{_≡_, refl, sym, _∙_, ap, ap₂}
-use mathlib.Core.Bool.{Bool, _&&_, not}
+use mathlib.Core.Path.{_≡_, sym, _∙_, ap, ap₂}
+use mathlib.Core.Bool.{_&&_, not}
 use mathlib.Core.Option.{Option, none, some, Option·getD}
 use Prim.Native.Nat.{ℕ, _+_, _<_}
 use native.Mathlib.Decide.{decLt}
@@ -16,7 +16,6 @@ use Rattle.quantity.proofs.Unique.{number-unique, not-zero}
 use Rattle.scale.specs.declared.law.Law.{Law}
 use Rattle.scale.specs.declared.law.Law.the-variants.{Curve, Scale}
 use Rattle.scale.specs.Subranges.{lawNamed}
-use Rattle.curve.specs.Tolerance as curve
 use Rattle.curve.proofs.Unique as curve-unique
 use Rattle.certificate.specs.declared.certificate.Certificate.{Certificate}
 use Rattle.certificate.specs.Certificate.{certificateOf, sound, givenThen}

@@ -1,7 +1,6 @@
 // Cases of readings by every law: readings, steps taken forward and read again, refusals in their order, tolerance tests. The second program makes what is
 // expected (second/reading_cases.py, where the families of cases are described).
 ghost use Prim.Native.Nat.{_<_, _≤_, _^_};
-ghost use lib.IntN.{natAbs};
 use draws::Signed;
 use draws::around;
 use draws::drawn_aluminium;

@@ -1,7 +1,7 @@
 -- The steps from 0 to one past the last, seen from the middle.
 use mathlib.Core.Path.{_≡_}
 use Prim.Native.Nat.{_≤_}
-use lib.IntN.{ℤ, pos, natAbs, _+ℤ_, _-ℤ_}
+use lib.IntN.{ℤ, pos, natAbs, _+ℤ_}
 use lib.Signed.{_≤ℤ_}
 use Rattle.whole.proofs.Parts.{ints, add-parts, sub-parts, abs-parts, one-part}
 use Rattle.quantity.specs.Quantities.{kelvinOf}

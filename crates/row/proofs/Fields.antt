@@ -1,6 +1,6 @@
 -- What a field says where the bytes of its kind stop.
-use mathlib.Core.Path.{_≡_, refl, sym, ap, _∙_}
-use mathlib.Core.Bool.{Bool, true, false, _&&_, not}
+use mathlib.Core.Path.{_≡_, refl}
+use mathlib.Core.Bool.{false, _&&_, not}
 use mathlib.Core.List.{List, [], _∷_}
 use native.Mathlib.Omega.{arith}
 use Prim.Native.Nat.{ℕ, zero, suc, _≤_, _<_}
@@ -8,7 +8,7 @@ use Prim.Native.Char.{code}
 use lib.Dec.{eqb}
 use lib.ListN.{length, take, getD}
 use Rattle.scale.specs.Names.{nameOf}
-use Rattle.row.specs.Fields.{field, digit, small}
+use Rattle.row.specs.Fields.{digit, small}
 use Rattle.row.specs.Numbers.{mostDigits, leadingZero, isNumber, valueOf}
 use Rattle.row.specs.Rows.{longestLaw, isLaw}
 use Rattle.row.specs.Scanned.{closesAt, scannedIf, scannedIn}

@@ -1,17 +1,15 @@
 -- The scan of a line from field to field is what its definition says.
-use mathlib.Core.Path.{_≡_, refl, sym, ap, _∙_, subst}
-use mathlib.Core.Bool.{Bool, true, false, true≢false, _&&_}
+use mathlib.Core.Path.{_≡_, refl, sym, ap, _∙_}
+use mathlib.Core.Bool.{Bool, true, false, _&&_}
 use mathlib.Core.List.{List, [], _∷_}
 use native.Mathlib.Omega.{arith}
-use native.Mathlib.Numerals.{add-one}
-use Prim.Native.Nat.{ℕ, zero, suc, _+_, _-_, _≤_, _<_}
+use Prim.Native.Nat.{ℕ, suc, _+_, _-_, _≤_, _<_}
 use Prim.Native.Char.{code}
 use lib.Dec.{leb, eqb}
 use lib.IntN.{ℤ}
 use lib.ListN.{length, drop, getD, length-drop}
 use lib.Seq.{drop-drop}
 use borrow.Author.Tests.{le-leb, lt-leb, leb-true, leb-false, eq-eqb, ne-eqb}
-use Rattle.whole.specs.Choice.{if_then_else_}
 use Rattle.scale.specs.Names.{nameOf}
 use Rattle.row.specs.declared.field.Scanned.{Scanned}
 use Rattle.row.specs.declared.number.Signed.{Signed}
@@ -19,7 +17,7 @@ use Rattle.row.specs.declared.row.Row.{Row}
 use Rattle.row.specs.declared.row.Parsed.the-variants as parsed
 use Rattle.row.specs.Fields.{field, later, fields}
 use Rattle.row.specs.Numbers.{isNumber, isSigned, valueOf, signedOf}
-use Rattle.row.specs.Rows.{isId, isLaw, rules, keep, longestLine, wellFormed, rowOf, stated, parsedOf}
+use Rattle.row.specs.Rows.{isId, isLaw, rules, keep, longestLine, wellFormed, stated, parsedOf}
 use Rattle.row.specs.Scanned.{nowhere, nextOf, nextAt, scannedAt, signedAt}
 
 -- A line's first field is all of it, or a comma follows and the other fields are those of what stands after it.

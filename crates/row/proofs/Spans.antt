@@ -1,5 +1,5 @@
 -- Bytes of one kind, from the start of a field on: where they stop, the field ends or breaks its rule.
-use mathlib.Core.Path.{_≡_, refl, sym, ap, _∙_, subst}
+use mathlib.Core.Path.{_≡_, refl, sym, ap, _∙_}
 use mathlib.Core.Bool.{Bool, true, false, true≢false, _&&_}
 use mathlib.Core.List.{List, [], _∷_, _++_}
 use native.Mathlib.Decide.{decLe}
@@ -10,11 +10,10 @@ use Prim.Native.Char.{code}
 use lib.Dec.{leb, ltb, eqb}
 use lib.ListN.{length, take, drop, getD, take-append-drop, drop-of-length-le}
 use lib.Seq.{take-suc, drop-cons, length-take-le}
-use borrow.Author.Tests.{eqb-true, le-leb, lt-leb, lt-ltb, le-ltb}
-use Rattle.whole.specs.Choice.{if_then_else_}
+use borrow.Author.Tests.{eqb-true, le-leb, lt-leb}
 use Rattle.whole.proofs.Choice.{and-true}
 use Rattle.row.specs.Fields.{field, sized, every}
-use Rattle.row.specs.Scanned.{ends, closesAt, nowhere, nextIf, nextOf}
+use Rattle.row.specs.Scanned.{ends, closesAt, nextIf, nextOf}
 
 pub and-false : (a : Bool) → (a && false) ≡ false
 and-false true = refl

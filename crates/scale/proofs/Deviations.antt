@@ -4,9 +4,9 @@ use mathlib.Core.Bool.{false}
 use Prim.Native.Nat.{ℕ, _+_, _*_, _<_, _≤_}
 use native.Mathlib.Omega.{arith}
 use borrow.Author.Tests.{lt-leb}
-use lib.IntN.{ℤ, pos, natAbs, _+ℤ_, _-ℤ_, _*ℤ_}
+use lib.IntN.{ℤ, pos, natAbs, _+ℤ_, _*ℤ_}
 use Rattle.whole.specs.Floor.{floor}
-use Rattle.whole.proofs.Parts.{up, dn, ints, one-part, sub-parts, abs-parts}
+use Rattle.whole.proofs.Parts.{up, dn, one-part, sub-parts, abs-parts}
 use Rattle.polynomial.specs.Polynomial.{rounded}
 use Rattle.polynomial.proofs.Sizes.{turn-size}
 use Rattle.quantity.specs.Quantities.{one, largestRatio}

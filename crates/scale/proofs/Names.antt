@@ -1,5 +1,5 @@
 -- Names: those of the scale's laws are those of its subranges, and each names its own.
-use mathlib.Core.Path.{_≡_, refl, ap}
+use mathlib.Core.Path.{_≡_, refl}
 use mathlib.Core.Bool.{Bool, true, false}
 use mathlib.Core.List.{List, [], _∷_, map}
 use mathlib.Core.Option.{Option, none, some}
@@ -10,7 +10,7 @@ use Rattle.scale.specs.declared.subrange.Subrange.{Subrange}
 use Rattle.scale.specs.declared.subrange.Subrange.the-variants.{Ga, In, Sn, Zn, Al, Ag}
 use Rattle.scale.specs.declared.law.Law.{Law}
 use Rattle.scale.specs.declared.law.Law.the-variants.{Curve, Scale}
-use Rattle.scale.specs.Subranges.{carried, firstNamed, lawName, lawNamed}
+use Rattle.scale.specs.Subranges.{carried, firstNamed, lawName}
 use Rattle.scale.specs.Promised.{NamesLaw}
 
 abbrev pub scaleIf : Option Subrange → Option Law

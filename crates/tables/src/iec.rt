@@ -1,5 +1,5 @@
 // Figures of IEC 60751 (IEC 751 with Amendment 2 of 1995): its table of resistances for R0 = 100 ohm and its table of tolerances.
-ghost use Prim.Native.Nat.{_+_, _<_, _≤_, _^_};
+ghost use Prim.Native.Nat.{_+_, _<_, _^_};
 ghost use lib.IntN.{natAbs};
 use crate::DEGREE;
 use crate::tally::Tally;

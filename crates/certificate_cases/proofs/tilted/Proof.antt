@@ -4,8 +4,7 @@ use mir.Facts.{toZ-ofZ}
 use Rattle.whole.proofs.Machine.{back}
 use mathlib.Core.Path.{_≡_}
 use Prim.Native.Nat.{_/_, _≤_}
-use lib.IntN.{ℤ, pos, natAbs, _+ℤ_, _-ℤ_, _*ℤ_}
-use lib.Signed.{_≤ℤ_}
+use lib.IntN.{ℤ, pos, natAbs, _-ℤ_, _*ℤ_}
 use mir.Syntax.{w64}
 use mir.Val.{toZ, ofZ}
 use Rattle.whole.specs.Floor.{floor}

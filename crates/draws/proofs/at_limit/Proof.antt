@@ -1,6 +1,6 @@
 use borrow.Author.Needs.{needs}
 use native.Mathlib.Omega.{arith}
-use lib.IntN.{pos, _+ℤ_}
+use lib.IntN.{pos}
 use mir.Facts.{toZ-ofZ}
 use Rattle.whole.proofs.Parts.{ints, add-parts, abs-parts}
 use Rattle.whole.proofs.Size.{sum-fits}

@@ -1,13 +1,12 @@
 use mathlib.Core.Path.{_≡_}
-use Prim.Native.Nat.{_+_, _≤_}
+use Prim.Native.Nat.{_≤_}
 use native.Mathlib.Omega.{arith}
-use lib.IntN.{natAbs, _-ℤ_}
+use lib.IntN.{natAbs}
 use mir.Syntax.{w64}
 use mir.Val.{SFits, toZ, ofZ}
 use mir.Facts.{toZ-ofZ}
 use Rattle.whole.proofs.Size.{abs→fits, difference-fits}
 use Rattle.whole.proofs.Machine.{back}
-use Rattle.quantity.specs.Quantities.{one, largestRatio}
 use Rattle.scale.specs.Deviation.{plainDeviation}
 use Rattle.scale.proofs.Deviations.{plain-size}
 use Rattle.fit.proofs.Within.{Within, all-within}

@@ -1,6 +1,4 @@
-use Prim.Native.Nat.{_≤_}
 use native.Mathlib.Omega.{arith}
-use lib.IntN.{pos, natAbs, _-ℤ_}
 use mir.Facts.{toZ-ofZ}
 use Rattle.whole.proofs.Parts.{ints, sub-parts}
 use Rattle.whole.proofs.Size.{abs-sub, difference-fits}

@@ -1,6 +1,5 @@
 use borrow.Author.Needs.{needs}
-use Prim.Native.Nat.{_<_, _^_}
-use lib.IntN.{natAbs, _*ℤ_}
+use lib.IntN.{_*ℤ_}
 use mir.Facts.{toZ-ofZ}
 use Rattle.whole.proofs.Machine.{back}
 use Rattle.whole.proofs.Size.{abs-mul, abs→fits}

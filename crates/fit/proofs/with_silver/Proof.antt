@@ -1,7 +1,5 @@
 use borrow.Author.Needs.{needs}
-use Prim.Native.Nat.{_≤_}
 use native.Mathlib.Omega.{arith}
-use lib.IntN.{natAbs, _-ℤ_}
 use mir.Facts.{toZ-ofZ}
 use Rattle.whole.proofs.Size.{abs-sub, abs→fits}
 use Rattle.whole.proofs.Machine.{back}

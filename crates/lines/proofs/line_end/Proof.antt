@@ -1,12 +1,11 @@
 use Rattle.lines.proofs.Scan.{NoEndAfter, no-end-start, no-end-more, ends-at, before-next}
 use Rattle.lines.specs.Lines.{endsAfter}
 use Rattle.lines.specs.Ends.{byteBefore}
-use mathlib.Core.Bool.{Bool, true, false, _&&_}
+use mathlib.Core.Bool.{true, false}
 use lib.ListN.{length, getD}
-use lib.Dec.{eqb}
-use Prim.Native.Nat.{ℕ, _+_, _-_, _≤_}
+use Prim.Native.Nat.{_+_, _-_, _≤_}
 use native.Mathlib.Omega.{arith}
-use mathlib.Core.Path.{_≡_, refl, sym, ap, _∙_, subst}
+use mathlib.Core.Path.{_≡_, _∙_, subst}
 use borrow.Author.Tests.{eq-eqb, ne-eqb}
 use borrow.Author.Needs.{needs}
 use Rattle.lines.proofs.line_end.Statement.{statement}

@@ -1,6 +1,6 @@
 use lib.ListN.{length}
 use mathlib.Core.Path.{_≡_}
-use Prim.Native.Nat.{_≤_, _-_}
+use Prim.Native.Nat.{_-_}
 use borrow.Author.Needs.{needs}
 use Rattle.launchlist.proofs.page.is_help.Statement.{statement}
 use Rattle.launchlist.proofs.page.is_help.Tie as tie

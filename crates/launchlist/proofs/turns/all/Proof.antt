@@ -1,4 +1,3 @@
-use Rattle.line.specs.Lent.{room}
 use lib.ListN.{length}
 use mathlib.Core.Path.{_≡_}
 use borrow.Author.Needs.{needs}

@@ -2,9 +2,9 @@ use Rattle.list.proofs.Feeds.{fed-long, part-is}
 use Rattle.list.proofs.Whole.{goes-on}
 use lib.Seq.{length-take-le}
 use lib.ListN.{length, take, drop, length-drop}
-use Prim.Native.Nat.{ℕ, _+_, _-_, _≤_, _<_}
+use Prim.Native.Nat.{_+_, _-_, _≤_, _<_}
 use native.Mathlib.Omega.{arith}
-use mathlib.Core.Path.{_≡_, refl, sym, ap, _∙_}
+use mathlib.Core.Path.{_≡_, sym, ap, _∙_}
 use borrow.Author.Needs.{needs}
 use Rattle.launchlist.proofs.turns.drain.Statement.{statement}
 use Rattle.launchlist.proofs.turns.drain.Tie as tie

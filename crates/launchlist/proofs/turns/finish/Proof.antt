@@ -1,9 +1,9 @@
 use Rattle.line.proofs.Placing.{placed-within}
 use lib.Seq.{length-take-le}
-use lib.ListN.{length, take, drop, length-drop}
-use Prim.Native.Nat.{ℕ, _+_, _-_, _≤_, _<_}
+use lib.ListN.{length}
+use Prim.Native.Nat.{_-_, _≤_}
 use native.Mathlib.Omega.{arith}
-use mathlib.Core.Path.{_≡_, refl, sym, ap, _∙_}
+use mathlib.Core.Path.{sym}
 use borrow.Author.Needs.{needs}
 use Rattle.launchlist.proofs.turns.finish.Statement.{statement}
 use Rattle.launchlist.proofs.turns.finish.Tie as tie

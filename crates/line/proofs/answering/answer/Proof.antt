@@ -1,7 +1,7 @@
 use Rattle.row.specs.Rows.{stated}
 use Rattle.line.proofs.Answers.{well-formed, ill-formed}
 use Rattle.line.specs.Answer.{illFormedLine}
-use mathlib.Core.Path.{_≡_, refl, sym, ap, _∙_, subst}
+use mathlib.Core.Path.{refl, sym, ap, _∙_}
 use borrow.Author.Needs.{needs}
 use Rattle.line.proofs.answering.answer.Statement.{statement}
 use Rattle.line.proofs.answering.answer.Tie as tie

@@ -15,10 +15,9 @@ use mir.Val.{SFits, toZ, ofZ}
 use mir.Syntax.{w64}
 use lib.Seq.{length-take-le}
 use lib.ListN.{length, take}
-use lib.IntN.{ℤ}
 use native.Mathlib.Omega.{arith}
 use Prim.Native.Nat.{ℕ, _≤_}
-use mathlib.Core.Path.{_≡_, refl, sym, ap, _∙_, subst}
+use mathlib.Core.Path.{_≡_, sym, ap, subst}
 use borrow.Author.Needs.{needs}
 use Rattle.line.proofs.answering.answer_row.Statement.{statement}
 use Rattle.line.proofs.answering.answer_row.Tie as tie

@@ -1,14 +1,13 @@
-use Rattle.line.proofs.Placing.{placed, not-placed, Four, placed-four, not-placed-four}
+use Rattle.line.proofs.Placing.{Four, placed-four, not-placed-four}
 use Rattle.line.proofs.Decimals.{word-digits}
 use Rattle.line.specs.Lent.{Placed}
 use Rattle.line.specs.Decimal.{decimal}
-use Rattle.line.specs.declared.lent.LineAnswer.{LineAnswer}
 use Rattle.whole.specs.Text.{ascii}
-use lib.ListN.{length, getD, take, drop}
-use Prim.Native.Nat.{ℕ, _+_, _-_, _^_, _≤_, _<_}
+use lib.ListN.{length}
+use Prim.Native.Nat.{ℕ, _+_, _-_, _<_}
 use native.Mathlib.Omega.{arith}
 use mathlib.Core.List.{List, _++_, append-assoc}
-use mathlib.Core.Path.{_≡_, refl, sym, ap, _∙_, subst}
+use mathlib.Core.Path.{refl, subst}
 use borrow.Author.Needs.{needs}
 use Rattle.line.proofs.answering.put_read.Statement.{statement}
 use Rattle.line.proofs.answering.put_read.Tie as tie

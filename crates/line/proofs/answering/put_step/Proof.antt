@@ -4,16 +4,15 @@ use mathlib.Core.Bool.{true, false}
 use Rattle.line.proofs.Answers.{step-below, step-above}
 use Rattle.line.specs.Lent.{Placed}
 use Rattle.line.specs.Writing.{readText}
-use Rattle.line.specs.Decimal.{decimal, signedDecimal}
+use Rattle.line.specs.Decimal.{decimal}
 use Rattle.whole.specs.Text.{ascii}
 use mir.Facts.{toZ-ofZ}
 use mir.Val.{SFits}
 use mir.Syntax.{w64}
-use lib.ListN.{length}
 use lib.IntN.{ℤ, pos}
 use Prim.Native.Nat.{ℕ}
-use mathlib.Core.List.{List, [], _++_}
-use mathlib.Core.Path.{_≡_, refl, sym, ap, _∙_, subst}
+use mathlib.Core.List.{List, _++_}
+use mathlib.Core.Path.{_≡_, sym, ap, _∙_, subst}
 use borrow.Author.Needs.{needs}
 use Rattle.line.proofs.answering.put_step.Statement.{statement}
 use Rattle.line.proofs.answering.put_step.Tie as tie

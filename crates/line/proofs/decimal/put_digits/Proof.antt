@@ -1,9 +1,6 @@
-use Rattle.line.proofs.Decimals.{Writing, write-start, write-more, write-last, some-digit, one-long}
-use Rattle.line.specs.Decimal.{decimal}
-use lib.ListN.{length, getD, take, drop, set}
-use Prim.Native.Nat.{ℕ, _+_, _-_, _/_, _%_, _≤_, _<_}
+use Rattle.line.proofs.Decimals.{Writing, write-start, write-more, write-last, some-digit}
+use Prim.Native.Nat.{_-_}
 use native.Mathlib.Omega.{arith}
-use mathlib.Core.Path.{_≡_, refl, sym, ap, _∙_}
 use borrow.Author.Needs.{needs}
 use Rattle.line.proofs.decimal.put_digits.Statement.{statement}
 use Rattle.line.proofs.decimal.put_digits.Tie as tie

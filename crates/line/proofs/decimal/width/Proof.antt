@@ -1,10 +1,9 @@
 use Rattle.line.proofs.Decimals.{one-long, more-long}
 use Rattle.line.specs.Decimal.{decimal}
-use lib.ListN.{length, getD, take, drop, set}
-use Prim.Native.Nat.{ℕ, _+_, _-_, _/_, _%_, _≤_, _<_}
+use lib.ListN.{length}
+use Prim.Native.Nat.{_+_, _-_, _≤_}
 use native.Mathlib.Omega.{arith}
-use mathlib.Core.Path.{_≡_, refl, sym, ap, _∙_}
-use borrow.Author.Needs.{needs}
+use mathlib.Core.Path.{_≡_}
 use Rattle.line.proofs.decimal.width.Statement.{statement}
 use Rattle.line.proofs.decimal.width.Tie as tie
 

@@ -1,7 +1,6 @@
 use Rattle.line.proofs.Placing.{placed, not-placed}
 use Rattle.line.proofs.Overs.{over-start}
-use native.Mathlib.Omega.{arith}
-use mathlib.Core.Path.{_≡_, refl, sym, ap, _∙_}
+use mathlib.Core.Path.{refl, _∙_}
 use borrow.Author.Needs.{needs}
 use Rattle.line.proofs.lent.place.Statement.{statement}
 use Rattle.line.proofs.lent.place.Tie as tie

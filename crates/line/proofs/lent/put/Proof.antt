@@ -2,10 +2,10 @@ use Rattle.line.proofs.Overs.{over-pasted}
 use lib.Seq.{paste, paste-zero, paste-suc}
 use lib.ListN.{length-set}
 use native.Mathlib.Numerals.{add-one}
-use lib.ListN.{length, getD, take, drop, set}
-use Prim.Native.Nat.{ℕ, _+_, _-_, _/_, _%_, _≤_, _<_}
+use lib.ListN.{length}
+use Prim.Native.Nat.{_-_, _≤_}
 use native.Mathlib.Omega.{arith}
-use mathlib.Core.Path.{_≡_, refl, sym, ap, _∙_}
+use mathlib.Core.Path.{_≡_, refl, ap, _∙_}
 use borrow.Author.Needs.{needs}
 use Rattle.line.proofs.lent.put.Statement.{statement}
 use Rattle.line.proofs.lent.put.Tie as tie

@@ -1,10 +1,8 @@
 use Rattle.list.proofs.Feeds.{held-is, none-held}
 use Rattle.lines.specs.Held.{mostHeld}
-use Rattle.list.specs.Feeding.{lineOf}
-use lib.ListN.{length, take}
-use Prim.Native.Nat.{ℕ, _≤_}
+use lib.ListN.{length}
 use native.Mathlib.Omega.{arith}
-use mathlib.Core.Path.{_≡_, refl, sym, ap, _∙_}
+use mathlib.Core.Path.{_≡_}
 use borrow.Author.Needs.{needs}
 use Rattle.list.proofs.feeding.feed.Statement.{statement}
 use Rattle.list.proofs.feeding.feed.Tie as tie

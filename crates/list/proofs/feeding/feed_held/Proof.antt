@@ -5,15 +5,14 @@ use Rattle.list.specs.Replies.{RepliedAs}
 use Rattle.lines.specs.Held.{mostHeld, capped}
 use Rattle.list.specs.Feeding.{lineOf, FedAs}
 use Rattle.lines.specs.Lines.{lastByte, allButLast}
-use Rattle.list.specs.declared.feeding.Fed.{Fed}
 use Rattle.list.specs.declared.state.State.{State}
 use borrow.Rule.Slice.PartMut.{putMid}
 use lib.Seq.{length-take-le}
-use lib.ListN.{length, getD, take, drop, length-drop}
+use lib.ListN.{length, take, drop}
 use Prim.Native.Nat.{ℕ, _+_, _-_, _≤_, _<_}
 use native.Mathlib.Omega.{arith}
-use mathlib.Core.List.{List, [], _++_}
-use mathlib.Core.Path.{_≡_, refl, sym, ap, _∙_, subst}
+use mathlib.Core.List.{List, _++_}
+use mathlib.Core.Path.{_≡_, sym, ap, _∙_, subst}
 use borrow.Author.Needs.{needs}
 use Rattle.list.proofs.feeding.feed_held.Statement.{statement}
 use Rattle.list.proofs.feeding.feed_held.Tie as tie

@@ -1,24 +1,21 @@
 use Rattle.list.proofs.Feeds.{fed-from}
 use Rattle.list.proofs.Feeds.{Written}
 use borrow.Rule.Slice.PartMut.{putMid}
-use mathlib.Core.Bool.{Bool}
 use Rattle.lines.proofs.Lines.{ends-after-some}
 use Rattle.list.proofs.Feeds.{part-is, put-last, fed-long}
 use Rattle.list.specs.Replies.{RepliedAs}
 use borrow.Author.Needs.{needs}
 use mathlib.Core.Path.{_≡_, refl, sym, ap, _∙_, subst}
-use mathlib.Core.List.{List, [], _++_}
+use mathlib.Core.List.{List}
 use native.Mathlib.Omega.{arith}
 use Prim.Native.Nat.{ℕ, _+_, _-_, _≤_, _<_}
-use lib.ListN.{length, getD, take, drop, length-drop}
-use lib.Seq.{length-take-le, take-all}
-use Rattle.list.specs.declared.state.Stage.{Stage}
+use lib.ListN.{length, take, drop, length-drop}
+use lib.Seq.{take-all}
 use Rattle.list.specs.declared.state.State.{State}
-use Rattle.list.specs.declared.feeding.Fed.{Fed}
 use Rattle.lines.specs.Lines.{lastByte, begun}
 use Rattle.lines.specs.Held.{mostHeld, capped}
 use Rattle.list.specs.Feeding.{lineOf, FedAs}
-use Rattle.lines.specs.Ends.{EndsAt, EndsAfter}
+use Rattle.lines.specs.Ends.{EndsAt}
 use Rattle.list.proofs.Feeds.{At, at-start, at-long, fed-all, fed-begun, fed-full, at-more, replied-written, replied-short}
 use Rattle.list.proofs.feeding.feed_lines.Statement.{statement}
 use Rattle.list.proofs.feeding.feed_lines.Tie as tie

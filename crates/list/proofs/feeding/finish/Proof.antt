@@ -1,12 +1,12 @@
 use Rattle.list.proofs.Feeds.{held-is, due-last}
 use Rattle.lines.specs.Held.{mostHeld}
-use Rattle.list.specs.Feeding.{lineOf, DueAtEnd, EndedWith}
+use Rattle.list.specs.Feeding.{lineOf, EndedWith}
 use lib.Seq.{length-take-le}
-use lib.ListN.{length, getD, take, drop}
-use Prim.Native.Nat.{ℕ, _+_, _-_, _≤_, _<_}
+use lib.ListN.{length, take}
+use Prim.Native.Nat.{ℕ, _-_, _≤_}
 use native.Mathlib.Omega.{arith}
-use mathlib.Core.List.{List, [], _++_}
-use mathlib.Core.Path.{_≡_, refl, sym, ap, _∙_, subst}
+use mathlib.Core.List.{List}
+use mathlib.Core.Path.{_≡_, sym, ap, _∙_, subst}
 use borrow.Author.Needs.{needs}
 use Rattle.list.proofs.feeding.finish.Statement.{statement}
 use Rattle.list.proofs.feeding.finish.Tie as tie

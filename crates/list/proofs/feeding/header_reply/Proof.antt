@@ -1,7 +1,6 @@
 use Rattle.list.specs.Lists.{same, inputHeader, outputHeader, wrongHeader}
 use mathlib.Core.Bool.{true, false}
-use native.Mathlib.Omega.{arith}
-use mathlib.Core.Path.{_≡_, refl, sym, ap, _∙_, subst}
+use mathlib.Core.Path.{_≡_, refl, sym, _∙_}
 use borrow.Author.Needs.{needs}
 use Rattle.list.proofs.feeding.header_reply.Statement.{statement}
 use Rattle.list.proofs.feeding.header_reply.Tie as tie

@@ -1,7 +1,5 @@
 use Rattle.lines.specs.Held.{mostHeld}
 use borrow.Author.Tests.{le-leb, lt-leb}
-use native.Mathlib.Omega.{arith}
-use mathlib.Core.Path.{_≡_, refl, sym, ap, _∙_, subst}
 use Rattle.list.proofs.feeding.held_count.Statement.{statement}
 use Rattle.list.proofs.feeding.held_count.Tie as tie
 

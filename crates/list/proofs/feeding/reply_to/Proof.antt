@@ -4,8 +4,7 @@ use Rattle.list.specs.declared.state.Stage.{Stage}
 use Rattle.line.proofs.Placing.{placed}
 use Prim.Native.Nat.{zero-le}
 use mathlib.Core.List.{[]}
-use native.Mathlib.Omega.{arith}
-use mathlib.Core.Path.{_≡_, refl, sym, ap, _∙_, subst}
+use mathlib.Core.Path.{refl, sym, subst}
 use borrow.Author.Needs.{needs}
 use Rattle.list.proofs.feeding.reply_to.Statement.{statement}
 use Rattle.list.proofs.feeding.reply_to.Tie as tie

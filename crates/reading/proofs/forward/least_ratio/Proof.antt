@@ -5,7 +5,7 @@ use lib.IntN.{ℤ}
 use lib.Signed.{leZ, _≤ℤ_, _<ℤ_}
 use mir.Syntax.{w64}
 use mir.Val.{toZ, ofZ}
-use Rattle.whole.proofs.Parts.{ints, add-parts}
+use Rattle.whole.proofs.Parts.{ints}
 use Rattle.whole.proofs.Machine.{back, le-yes, le-no}
 use Rattle.quantity.specs.Quantities.{largestRatio}
 use Rattle.reference.specs.Reference.{working}

@@ -1,5 +1,5 @@
 use borrow.Author.Needs.{needs}
-use mathlib.Core.Path.{_≡_, subst}
+use mathlib.Core.Path.{subst}
 use Rattle.quantity.specs.Refusals.{numberOf}
 use Rattle.quantity.specs.StepAnswer as step
 use Rattle.reading.specs.Reading.{ReadRatio}

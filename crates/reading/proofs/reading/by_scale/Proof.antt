@@ -10,7 +10,6 @@ use Rattle.whole.proofs.Parts.{ints, add-parts}
 use Rattle.whole.proofs.Machine.{back, lt-yes, lt-no}
 use Rattle.scale.specs.declared.law.Law.the-variants.{Scale}
 use Rattle.scale.specs.Subranges.{carried}
-use Rattle.reference.specs.declared.Inverse.{Inverse}
 use Rattle.reference.specs.Inverse.{Inverted}
 use Rattle.reference.specs.Reference.{working, last, pastLast}
 use Rattle.deviation.specs.Working.{Wr}

@@ -1,6 +1,4 @@
 use borrow.Author.Needs.{needs}
-use mathlib.Core.Path.{_≡_}
-use Rattle.quantity.specs.RatioAnswer as ratio
 use Rattle.quantity.proofs.Answered.{answered}
 use Rattle.reading.specs.Reading.{stated}
 use Rattle.reading.proofs.Outcomes.{ratio-refused, ratio-read}

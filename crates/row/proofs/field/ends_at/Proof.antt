@@ -1,8 +1,5 @@
 use lib.ListN.{drop-of-length-le}
 use lib.Seq.{drop-cons}
-use native.Mathlib.Omega.{arith}
-use mathlib.Core.Path.{_≡_, refl, sym, ap, _∙_}
-use borrow.Author.Tests.{le-leb, lt-leb, lt-ltb, le-ltb, eq-eqb, ne-eqb}
 use borrow.Author.Needs.{needs}
 use Rattle.row.proofs.field.ends_at.Statement.{statement}
 use Rattle.row.proofs.field.ends_at.Tie as tie

@@ -1,6 +1,4 @@
 use Rattle.row.proofs.Fields.{no-leading, leading}
-use native.Mathlib.Omega.{arith}
-use mathlib.Core.Path.{_≡_, sym}
 use borrow.Author.Needs.{needs}
 use Rattle.row.proofs.number.leading_zero.Statement.{statement}
 use Rattle.row.proofs.number.leading_zero.Tie as tie

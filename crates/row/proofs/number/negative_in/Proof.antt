@@ -5,12 +5,11 @@ use Rattle.row.specs.Numbers.{isNumber, valueOf}
 use Rattle.row.specs.declared.field.Scanned.{Scanned}
 use Rattle.whole.proofs.Parts.{ints, one-part, sub-parts}
 use Rattle.whole.proofs.Machine.{back}
-use mir.Facts.{toZ-ofZ}
-use lib.ListN.{length, getD, take, drop}
-use lib.IntN.{ℤ, pos, _-ℤ_}
-use Prim.Native.Nat.{ℕ, _+_, _-_, _*_, _^_, _≤_, _<_}
+use lib.ListN.{drop}
+use lib.IntN.{pos, _-ℤ_}
+use Prim.Native.Nat.{_-_}
 use native.Mathlib.Omega.{arith}
-use mathlib.Core.Path.{_≡_, refl, sym, ap, _∙_}
+use mathlib.Core.Path.{_≡_, ap, _∙_}
 use borrow.Author.Needs.{needs}
 use Rattle.row.proofs.number.negative_in.Statement.{statement}
 use Rattle.row.proofs.number.negative_in.Tie as tie

@@ -1,10 +1,9 @@
 use Rattle.row.specs.declared.field.Scanned.{Scanned}
 use Rattle.row.proofs.Offsets.{next-within, scanned-from, scanned-past}
 use Rattle.row.specs.Numbers.{isNumber, valueOf}
-use lib.ListN.{length, getD, take, drop}
-use Prim.Native.Nat.{ℕ, _+_, _-_, _*_, _^_, _≤_, _<_}
+use Prim.Native.Nat.{_-_}
 use native.Mathlib.Omega.{arith}
-use mathlib.Core.Path.{_≡_, refl, sym, ap, _∙_}
+use mathlib.Core.Path.{ap, _∙_}
 use borrow.Author.Needs.{needs}
 use Rattle.row.proofs.number.number_at.Statement.{statement}
 use Rattle.row.proofs.number.number_at.Tie as tie

@@ -4,12 +4,12 @@ use Rattle.row.proofs.Spans.{Span, span-start, span-more, stopped, over
 use Rattle.row.specs.Numbers.{mostDigits, valueOf}
 use Rattle.row.specs.Fields.{digit}
 use lib.ListN.{length, getD, take}
-use Prim.Native.Nat.{ℕ, _+_, _-_, _*_, _^_, _≤_, _<_}
+use Prim.Native.Nat.{_+_, _-_, _*_, _^_, _≤_, _<_}
 use lib.Dec.{lit<}
 use native.Mathlib.Nat.{pow-le-pow-right}
 use native.Mathlib.Omega.{arith}
 use mathlib.Core.Bool.{true}
-use mathlib.Core.Path.{_≡_, refl, sym, ap, _∙_}
+use mathlib.Core.Path.{_≡_, refl, sym, _∙_}
 use borrow.Author.Tests.{not-true, not-false}
 use borrow.Author.Needs.{needs}
 use Rattle.row.proofs.number.number_in.Statement.{statement}

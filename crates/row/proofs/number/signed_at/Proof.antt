@@ -2,13 +2,11 @@ use Rattle.row.specs.declared.number.Signed.{Signed}
 use Rattle.row.proofs.Offsets.{next-within, signed-from, signed-past}
 use mir.Facts.{toZ-ofZ}
 use mir.Syntax.{w64}
-use lib.IntN.{ℤ}
 use Rattle.row.specs.Numbers.{isSigned}
 use mir.Val.{SFits}
-use lib.ListN.{length, getD, take, drop}
-use Prim.Native.Nat.{ℕ, _+_, _-_, _*_, _^_, _≤_, _<_}
+use Prim.Native.Nat.{_-_}
 use native.Mathlib.Omega.{arith}
-use mathlib.Core.Path.{_≡_, refl, sym, ap, _∙_}
+use mathlib.Core.Path.{ap, _∙_}
 use borrow.Author.Needs.{needs}
 use Rattle.row.proofs.number.signed_at.Statement.{statement}
 use Rattle.row.proofs.number.signed_at.Tie as tie

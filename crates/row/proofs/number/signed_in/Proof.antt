@@ -1,15 +1,9 @@
 use Rattle.row.proofs.Offsets.{number-most, signed-empty, plain}
-use Rattle.row.specs.Scanned.{scannedIn}
-use Rattle.row.specs.Numbers.{isNumber, valueOf}
 use Rattle.row.specs.declared.field.Scanned.{Scanned}
-use Rattle.whole.proofs.Size.{difference-fits}
 use Rattle.whole.proofs.Machine.{back}
-use mir.Facts.{toZ-ofZ}
-use lib.ListN.{length, getD, take, drop}
-use lib.IntN.{ℤ, pos, _-ℤ_}
-use Prim.Native.Nat.{ℕ, _+_, _-_, _*_, _^_, _≤_, _<_}
+use Prim.Native.Nat.{_-_}
 use native.Mathlib.Omega.{arith}
-use mathlib.Core.Path.{_≡_, refl, sym, ap, _∙_}
+use mathlib.Core.Path.{ap, _∙_}
 use borrow.Author.Needs.{needs}
 use Rattle.row.proofs.number.signed_in.Statement.{statement}
 use Rattle.row.proofs.number.signed_in.Tie as tie
