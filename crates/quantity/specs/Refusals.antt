@@ -1,4 +1,4 @@
--- "Numbers given when there is no answer": the table's number for each case, with the table's words.
+-- "Numbers given when there is no answer": the number of each row of the table, and the row in short.
 use Prim.Native.Nat.{ℕ}
 use Rattle.quantity.specs.declared.refusal.Refusal.{Refusal}
 use Rattle.quantity.specs.declared.refusal.Refusal.the-variants.{ResistanceOutside, RatioAbove, NameUnknown, CellNotMeasured, PurityCellNotMeasured, Impure, BeyondLimit, BelowRange, AboveRange, IllFormed, BufferShort}
