@@ -51,11 +51,11 @@ Holds (gives ratios x) = recordAnswer ratios ≡ givenBy (lawNamed (ratios .subr
 -- ---- the table
 
 -- by the ag certificate of zeros whose W(Al) is 3.3760086, and by the curve
-abbrev zeros : ℕ → Reads → Card
-zeros = reads (spelled "ag") (pos 0) (pos 0) (pos 0) (pos 0) 3_376_008_600
+abbrev zeroAg : ℕ → Reads → Card
+zeroAg = reads (spelled "ag") (pos 0) (pos 0) (pos 0) (pos 0) 3_376_008_600
 
-abbrev curve : ℕ → Reads → Card
-curve = reads (spelled "curve") (pos 0) (pos 0) (pos 0) (pos 0) 0
+abbrev onCurve : ℕ → Reads → Card
+onCurve = reads (spelled "curve") (pos 0) (pos 0) (pos 0) (pos 0) 0
 
 -- a record with gallium and indium alone, and a certificate with a alone
 abbrev low : ℕ → ℕ → ℕ → Gives → Card
@@ -75,23 +75,30 @@ low name gallium indium =
 abbrev onlyA : ℤ → Gives
 onlyA a = places a (pos 0) (pos 0) (pos 0) 0
 
--- Cards 1 to 8.
+-- Cards 1 to 8, line by line: one line for each of cards 1, 2 and 6, two for 3, 4, 5 and 8, three for 7, whose last has no star and is proved too.
 abbrev pub cards : List Card
 cards =
+    -- 1 and 2
     works (pos 0) (pos 99_996_011_000)
     ∷ works (pos 4_810_000) (pos 278_157_254_000)
-    ∷ zeros 2_781_572_540 (step (pos 4_810_000))
-    ∷ zeros 2_781_572_539 (step (pos 4_809_999))
-    ∷ zeros 999_960_110 (step (pos 0))
-    ∷ zeros 999_960_109 (number 8)
+    -- 3
+    ∷ zeroAg 2_781_572_540 (step (pos 4_810_000))
+    ∷ zeroAg 2_781_572_539 (step (pos 4_809_999))
+    -- 4
+    ∷ zeroAg 999_960_110 (step (pos 0))
+    ∷ zeroAg 999_960_109 (number 8)
+    -- 5
     ∷ low (spelled "ga") 1_118_070_000 0 (onlyA (negℤ (pos 58_346_744)))
     ∷ low (spelled "ga") 1_118_069_999 0 (number 6)
+    -- 6
     ∷ low (spelled "in") 1_118_138_890 1_609_701_850 (onlyA (negℤ (pos 16_401_460)))
-    ∷ curve 1_385_055_000 (step (pos 1_000_000))
-    ∷ curve 185_200_800 (step (negℤ (pos 2_000_000)))
-    ∷ curve 185_200_799 (number 8)
-    ∷ curve 3_904_811_542 (step (pos 8_500_000))
-    ∷ curve 3_904_811_543 (number 9)
+    -- 7
+    ∷ onCurve 1_385_055_000 (step (pos 1_000_000))
+    ∷ onCurve 185_200_800 (step (negℤ (pos 2_000_000)))
+    ∷ onCurve 185_200_799 (number 8)
+    -- 8
+    ∷ onCurve 3_904_811_542 (step (pos 8_500_000))
+    ∷ onCurve 3_904_811_543 (number 9)
     ∷ []
 
 -- Each card of a list holds.
