@@ -16,6 +16,9 @@ import ground
 import launchlist_cases
 import reading
 import reading_cases
+import register
+import register_cases
+import register_story
 import tables
 from cases import CheckFailed
 from certificate import WR, certify, given
@@ -24,6 +27,7 @@ from launchlist import answer
 from quantity import Refused, kelvin, quotient_down, ratio
 from reading import deviation_at
 from reference import BELOW, PAST, PAST_TOP, TOP, inverse, working
+from register import Entry
 
 ROOT = Path(__file__).resolve().parent.parent
 
@@ -46,6 +50,8 @@ MAKERS = {
     "crates/reading_cases/stdout": reading_cases.make,
     "crates/cards/stdout": cards.make,
     "crates/tables/stdout": tables.make,
+    "crates/register_cases/stdout": register_cases.make,
+    "crates/register_story/stdout": register_story.make,
     "crates/launchlist/stdin": launchlist_cases.stdin,
     "crates/launchlist/stdout": launchlist_cases.stdout,
     "examples/round.answer.csv": example_answer,
@@ -193,6 +199,48 @@ def answers(*lines):
 
 IS_100 = "F1,curve,1000000,0"
 ILL = "?,?,,10"
+
+
+def entry(number, serial, mark=0, certificate=ZERO_GA):
+    """An entry of the register."""
+    return Entry(number, serial, mark, certificate)
+
+
+UNKNOWN = ("pt", 0, 0, 0, 0, 0)
+UNSOUND = ("ga", 10**8 + 1, 0, 0, 0, 0)
+
+# Free places, with a bad certificate and with one that would be live.
+FREE = entry(0, 1, 0, UNKNOWN)
+FREE_SOUND = entry(0, 1)
+TWICE = (entry(7, 1), entry(7, 1))
+
+
+def table_after(act, table, *arguments):
+    """The table that an act leaves, which it must not change to refuse."""
+    made = list(table)
+    try:
+        act(made, *arguments)
+    except Refused as refused:
+        if made != list(table):
+            raise CheckFailed(f"{refused}, and the table is changed: {made}")
+        raise
+    return tuple(made)
+
+
+def imports(table, *entries):
+    return table_after(register.import_list, table, entries)
+
+
+def withdraws(table, number, serial):
+    return table_after(register.withdraw, table, number, serial)
+
+
+def read_water(table, number):
+    """What W = 1 is read as: the water triple point, whatever the deviation."""
+    return register.read(list(table), number, 25 * 10**9, 25 * 10**9)
+
+
+IS_WATER = ("ga", 100)
 
 
 # What, due, then the function and its arguments. The numbers due are copied
@@ -528,6 +576,150 @@ SELF_CHECKS = (
     ("line, 10 before 3", ILL, answers, row(law="pt", a="-0")),
     ("line, 3 before 7", "F1,pt,,3", answers, row(law="pt", a="1")),
     ("line, 7 before 1", "F1,curve,,7", answers, row(a="1", r="0")),
+    ("serial at the mark", "refused 20", read_water, [entry(7, 2, 2)], 7),
+    ("serial above it", IS_WATER, read_water, [entry(7, 3, 2)], 7),
+    ("serial under it", "refused 20", read_water, [entry(7, 1, 2)], 7),
+    ("serial 0, mark 0", "refused 20", read_water, [entry(7, 0)], 7),
+    ("serial 1, mark 0", IS_WATER, read_water, [entry(7, 1)], 7),
+    (
+        "read by its own",
+        ("in", 100),
+        read_water,
+        [entry(7, 1), entry(8, 1, 0, ZERO_IN)],
+        8,
+    ),
+    ("none such to read", "refused 20", read_water, [FREE, entry(7, 1)], 8),
+    ("number 0 to read", "refused 20", read_water, [FREE_SOUND, entry(7, 1)], 0),
+    ("two free places", IS_WATER, read_water, [FREE, FREE, entry(7, 1)], 7),
+    ("no place at all", "refused 20", read_water, [], 7),
+    ("thermometer twice", "refused 23", read_water, TWICE, 7),
+    (
+        "unknown law held, withdrawn",
+        "refused 23",
+        read_water,
+        [entry(7, 1), entry(8, 1, 1, UNKNOWN)],
+        7,
+    ),
+    (
+        "unsound certificate held, of serial 0",
+        "refused 23",
+        read_water,
+        [entry(7, 1), entry(8, 0, 0, UNSOUND)],
+        7,
+    ),
+    ("read, 23 before 20", "refused 23", read_water, TWICE, 8),
+    ("read, 20 before 1", "refused 20", register.read, [entry(7, 1, 1)], 7, 0, 0),
+    ("read, 1", "refused 1", register.read, [entry(7, 1)], 7, 0, 0),
+    (
+        "first free places in list order",
+        (entry(9, 1), entry(5, 1), entry(8, 1), FREE),
+        imports,
+        [FREE, entry(5, 1), FREE_SOUND, FREE],
+        entry(9, 1),
+        entry(8, 1),
+    ),
+    (
+        "as many as places left, with their marks",
+        (entry(8, 1, 3), entry(7, 1), entry(9, 0, 0)),
+        imports,
+        [FREE, entry(7, 1), FREE],
+        entry(8, 1, 3),
+        entry(9, 0, 0),
+    ),
+    (
+        "19: one more",
+        "refused 19",
+        imports,
+        [FREE, entry(7, 1), FREE],
+        *(entry(8, 1), entry(9, 1), entry(10, 1)),
+    ),
+    ("none left, none new", (entry(7, 2),), imports, [entry(7, 1)], entry(7, 2)),
+    ("none left, one new", "refused 19", imports, [entry(7, 1)], entry(8, 1)),
+    (
+        "newer serial, lower mark",
+        (entry(7, 2, 1, ZERO_IN),),
+        imports,
+        [entry(7, 1, 1)],
+        entry(7, 2, 0, ZERO_IN),
+    ),
+    (
+        "older serial, higher mark",
+        (entry(7, 2, 3),),
+        imports,
+        [entry(7, 2, 1)],
+        entry(7, 1, 3, ZERO_IN),
+    ),
+    ("same, higher mark", (entry(7, 2, 3),), imports, [entry(7, 2)], entry(7, 2, 3)),
+    ("empty list", (entry(7, 1), FREE), imports, [entry(7, 1), FREE]),
+    ("empty list, 23", "refused 23", imports, TWICE),
+    ("18: another law", "refused 18", imports, [entry(7, 1)], entry(7, 1, 0, ZERO_IN)),
+    (
+        "18: another a",
+        "refused 18",
+        imports,
+        [entry(7, 1, 0, ("ga", 1, 0, 0, 0, 0))],
+        entry(7, 1),
+    ),
+    (
+        "18: another W(Al), both withdrawn",
+        "refused 18",
+        imports,
+        [entry(7, 1, 5, ZERO_AG)],
+        entry(7, 1, 5, ("ag", 0, 0, 0, 0, W_AL + 1)),
+    ),
+    (
+        "no 18 against another thermometer or a free place",
+        (entry(7, 1), entry(8, 1, 0, ZERO_IN), entry(9, 1, 0, ZERO_AG)),
+        imports,
+        [entry(7, 1), FREE_SOUND, FREE_SOUND],
+        entry(8, 1, 0, ZERO_IN),
+        entry(9, 1, 0, ZERO_AG),
+    ),
+    ("23 before 3", "refused 23", imports, TWICE, entry(8, 1, 0, UNKNOWN)),
+    (
+        "3 before 7, over the whole list",
+        "refused 3",
+        imports,
+        [FREE, FREE],
+        entry(8, 1, 0, UNSOUND),
+        entry(9, 1, 0, UNKNOWN),
+    ),
+    (
+        "7 before 17",
+        "refused 7",
+        imports,
+        [FREE] * 3,
+        *(entry(8, 1), entry(8, 1), entry(9, 1, 0, UNSOUND)),
+    ),
+    ("7 for number 0", "refused 7", imports, [FREE], entry(0, 1, 0, UNSOUND)),
+    ("17 for number 0", "refused 17", imports, [FREE] * 2, entry(8, 1), entry(0, 1)),
+    ("17 for two alike", "refused 17", imports, [FREE, FREE], entry(8, 1), entry(8, 1)),
+    (
+        "17 before 18",
+        "refused 17",
+        imports,
+        [entry(7, 1), FREE, FREE],
+        *(entry(7, 1, 0, ZERO_IN), entry(8, 1), entry(8, 1)),
+    ),
+    (
+        "one serial with two certificates in the list alone",
+        "refused 17",
+        imports,
+        [FREE, FREE],
+        *(entry(8, 1), entry(8, 1, 0, ZERO_IN)),
+    ),
+    (
+        "18 before 19",
+        "refused 18",
+        imports,
+        [entry(7, 1)],
+        *(entry(8, 1), entry(7, 1, 0, ZERO_IN)),
+    ),
+    ("mark raised", (entry(7, 1, 3),), withdraws, [entry(7, 1, 1)], 7, 3),
+    ("mark not lowered", (entry(7, 1, 3),), withdraws, [entry(7, 1, 3)], 7, 2),
+    ("none such to withdraw", "refused 20", withdraws, [FREE, entry(7, 1)], 8, 1),
+    ("number 0 to withdraw", "refused 20", withdraws, [FREE, entry(7, 1)], 0, 1),
+    ("withdrawal, 23 before 20", "refused 23", withdraws, TWICE, 8, 1),
 )
 
 

@@ -6,7 +6,7 @@ use lib.IntN.{ℤ}
 use native.Mathlib.Omega.{arith}
 use lib.ListN.{getD}
 use Rattle.quantity.specs.declared.refusal.Refusal.{Refusal}
-use Rattle.quantity.specs.declared.refusal.Refusal.the-variants.{ResistanceOutside, RatioAbove, NameUnknown, CellNotMeasured, PurityCellNotMeasured, Impure, BeyondLimit, BelowRange, AboveRange, IllFormed, BufferShort}
+use Rattle.quantity.specs.declared.refusal.Refusal.the-variants.{ResistanceOutside, RatioAbove, NameUnknown, CellNotMeasured, PurityCellNotMeasured, Impure, BeyondLimit, BelowRange, AboveRange, IllFormed, BufferShort, NumberUnfit, SerialClash, TableFull, NotLive, TableBad}
 use Rattle.quantity.specs.declared.resistance.RatioAnswer.{RatioAnswer}
 use Rattle.quantity.specs.declared.resistance.RatioAnswer.the-variants.{Ratio, Refused}
 use Rattle.quantity.specs.declared.step.StepAnswer.{StepAnswer}
@@ -15,7 +15,7 @@ use Rattle.quantity.specs.Refusals.{numberOf}
 use Rattle.quantity.specs.StepAnswer as stepped
 use Rattle.quantity.specs.RatioAnswer.{Outcome, stated, ratioAnswer}
 
--- the refusals by their numbers, from 1
+-- the refusals by their numbers, from 1; a number that is not given has the first one's place
 table : List Refusal
 table =
     ResistanceOutside
@@ -29,6 +29,18 @@ table =
     ∷ AboveRange
     ∷ IllFormed
     ∷ BufferShort
+    ∷ ResistanceOutside
+    ∷ ResistanceOutside
+    ∷ ResistanceOutside
+    ∷ ResistanceOutside
+    ∷ ResistanceOutside
+    ∷ NumberUnfit
+    ∷ SerialClash
+    ∷ TableFull
+    ∷ NotLive
+    ∷ ResistanceOutside
+    ∷ ResistanceOutside
+    ∷ TableBad
     ∷ []
 
 refusal : ℕ → Refusal
@@ -47,6 +59,11 @@ back BelowRange = refl
 back AboveRange = refl
 back IllFormed = refl
 back BufferShort = refl
+back NumberUnfit = refl
+back SerialClash = refl
+back TableFull = refl
+back NotLive = refl
+back TableBad = refl
 
 pub number-unique : (x y : Refusal) → numberOf x ≡ numberOf y → x ≡ y
 number-unique x y e = sym (back x) ∙ ap refusal e ∙ back y

@@ -1,7 +1,7 @@
 ghost use mathlib.Core.Path.{_≡_};
 ghost use Rattle.quantity.specs.Refusals.{numberOf};
 
-// Why there is no answer. One case for each row of the scope document's table.
+// Why there is no answer. One case for each row of the scope document's table, then those of the register.
 pub enum Refusal {
     ResistanceOutside,
     RatioAbove,
@@ -14,10 +14,15 @@ pub enum Refusal {
     AboveRange,
     IllFormed,
     BufferShort,
+    NumberUnfit,
+    SerialClash,
+    TableFull,
+    NotLive,
+    TableBad,
 }
 
 impl Refusal {
-    // The number that the table gives.
+    // The number under which it is given.
     pub fn number(self) -> u8
         ensures { λ r. ⌜ r ≡ numberOf self ⌝ }
     {
@@ -33,6 +38,11 @@ impl Refusal {
             Refusal::AboveRange => 9,
             Refusal::IllFormed => 10,
             Refusal::BufferShort => 11,
+            Refusal::NumberUnfit => 17,
+            Refusal::SerialClash => 18,
+            Refusal::TableFull => 19,
+            Refusal::NotLive => 20,
+            Refusal::TableBad => 23,
         }
     }
 }

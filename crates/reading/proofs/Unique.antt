@@ -62,7 +62,7 @@ pub read-unique : (name : ℕ) (a b c d : ℤ) (wal r r0 : ℕ) (o o′ : Outcom
 read-unique name a b c d wal r r0 o o′ h i =
     given-both refused (λ (k : Certificate) (o : Outcome). ReadBy k r r0 o) o o′ (by-unique r r0 o o′) (lawNamed name) a b c d wal h i
 
-reading-unique : (x y : ReadingAnswer) → stated x ≡ stated y → x ≡ y
+pub reading-unique : (x y : ReadingAnswer) → stated x ≡ stated y → x ≡ y
 reading-unique (reading.Read t) (reading.Read u) e =
     ap reading.Read (ap (λ (o : Outcome). record { law = Option·getD (o .law) Curve; step = record { 0 = o .step } }) e)
 reading-unique (reading.Read t) (reading.Refused why) e = absurd (not-zero why (ap (λ (o : Outcome). o .code) e))

@@ -1,0 +1,3 @@
+pub mod Entry
+pub mod Testing
+pub mod Answering

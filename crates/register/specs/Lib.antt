@@ -1,0 +1,5 @@
+pub mod Table
+pub mod Import
+pub mod Withdrawal
+pub mod Reading
+pub mod Promised

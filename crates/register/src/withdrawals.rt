@@ -1,0 +1,27 @@
+// A withdrawal: the certificates of a thermometer are withdrawn up to a serial, for good.
+ghost use mathlib.Core.Path.{_≡_};
+ghost use Rattle.entry.specs.Answering.{stated as numberIn};
+ghost use Rattle.register.specs.Withdrawal.{withdrawalRefusal, withdrawn};
+use crate::table::examine;
+use crate::table::lookup;
+use crate::table::put;
+use entry::Change;
+use entry::Entry;
+use entry::Serial;
+use entry::Thermometer;
+use entry::accepted;
+use entry::raised;
+use entry::withdrawal_answer;
+
+// The thermometer's mark rises to the serial and never falls. A refused withdrawal changes nothing.
+pub fn withdraw(table: &mut [Entry], number: Thermometer, serial: Serial) -> Change
+    ensures { λ r. ⌜ (numberIn r ≡ withdrawalRefusal (now (table .entry)) (number .0)) × (now (table .exit) ≡ withdrawn (now (table .entry)) (number .0) serial) ⌝ }
+{
+    let s = examine(table);
+    let held = lookup(table, number.0);
+    let change = withdrawal_answer(s, held);
+    if accepted(change) {
+        put(table, number.0, raised(held, serial));
+    }
+    change
+}
