@@ -10,6 +10,7 @@ pub mod Lends
 pub mod Lent
 pub mod Live
 pub mod Newer
+pub mod Opened
 pub mod Orders
 pub mod Places
 pub mod Placing

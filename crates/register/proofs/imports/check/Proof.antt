@@ -14,10 +14,11 @@ use Rattle.entry.specs.Entry.{free}
 use Rattle.entry.specs.Testing.{noted, nothingNoted}
 use Rattle.register.specs.Table.{firstAt, entryOf}
 use Rattle.register.specs.Import.{Tested}
-use Rattle.register.proofs.Kit.{ !, Atoms, Below, Calls, Env, FmC, Fun, GName, Given, Heap, Is, Item, Lft, Loops, Meets, Memory, Out, Room, Routine, SProp, Share, ShrSlice, Sq, Stays, Tables, Triple, URA, Val, Wp, WpFn, _$_, _∵_, _⊛_, afterBlock, afterSeq, afterTurn, again, alloc0, alloc1, and-then, anyQ, assigns, assigns-last, atRet, atReturn, bin, blocks, branches, by, cited, done, drop, elem-back, elem-out, emp, ends-at, ent, enter, entered, exec, fat, fdies, first, fjoin, fld, flft, fmOf, forget, frame, free0, free1, from, froom, fsplit, fst∗, ftrue, fullShare, givenOf, goes-none, goes-none-slice, hop, imm, init, join, jumps, land, lit, load, look, look-in, look-raw, looks-slice, loops, meets, move, named, no-more, nothing, now, of-opd, onEntry, only, owned, owns, params1, pass0, pass1, place-is, plain, pointee, qed, returns, rewrite, row, runs, says, shows, shr-slice-copy, shr-slice-tells, shuts-slice, skips, slice-vals, sliceTy, split, stay-none, stay-none-slice, stop, store, sub, suffices, tables, tablesOf, tripleOf, tyBool, tyInt, tyPtr, tyRef, use1, via, vint, vptr, w64, walkOf, walked, whole, yes, ‵, ⋆}
+use Rattle.register.proofs.Kit.{ !, Atoms, Below, Calls, Env, FmC, Fun, GName, Given, Heap, Is, Item, Lft, Loops, Meets, Memory, Out, Room, Routine, SProp, Share, ShrSlice, Sq, Stays, Tables, Triple, URA, Val, Wp, WpFn, _$_, _∵_, _⊛_, afterBlock, afterSeq, afterTurn, again, alloc0, alloc1, and-then, anyQ, assigns, assigns-last, atRet, atReturn, bin, blocks, branches, by, cited, done, drop, emp, ends-at, ent, enter, entered, exec, fat, fdies, first, fjoin, fld, flft, fmOf, forget, frame, free0, free1, from, froom, fsplit, fst∗, ftrue, fullShare, givenOf, goes-none, goes-none-slice, hop, imm, init, join, jumps, land, lit, load, look, look-in, look-raw, loops, meets, move, named, no-more, nothing, now, of-opd, onEntry, only, owned, owns, params1, pass0, pass1, place-is, plain, pointee, qed, returns, rewrite, row, runs, says, shr-slice-tells, skips, slice-vals, sliceTy, split, stay-none, stay-none-slice, stop, store, sub, suffices, tables, tablesOf, tripleOf, tyBool, tyInt, tyPtr, tyRef, via, vint, vptr, w64, walkOf, walked, whole, yes, ‵, ⋆}
 use Rattle.register.proofs.Calls.{Shared}
+use Rattle.register.proofs.Opened.{takes-entry, puts-back}
 use Rattle.register.proofs.Lent.{at-list, whole-slice}
-use Rattle.register.proofs.Sorts.{number-of, Entries, Good, Noteds, Word, copies, env, fits-place, tail}
+use Rattle.register.proofs.Sorts.{number-of, Entries, Good, Noteds, Word, env, fits-place, tail}
 use Rattle.register.proofs.Plain.{NothingNoted, Note, calls-nothing-noted, calls-note}
 use Rattle.register.proofs.Slices.{Find, Lookup, calls-find, calls-lookup}
 use Rattle.register.proofs.Tests.{notedFrom, noted-next, noted-end, noted-all}
@@ -97,12 +98,10 @@ module _ {M : Type 1} (𝓤 : URA M) (H : Heap 𝓤) (A : Atoms 𝓤) (W : Given
         assigns ! (bin ! (load ! (from ! (stop !)) (look ! 18 refl)) (lit ! tt) (record { fits = fits-place (i .0) _ (ltb→lt (i .0) (length xs) less) gm })) (from ! (stop !)) (store ! 10 refl (tt, record { fits = fits-place (i .0) _ (ltb→lt (i .0) (length xs) less) gm })) $
         assigns ! (bin ! (load ! (from ! (fld ! refl (stop !))) (look-in ! 24 (sub ! 0 refl (whole !)))) (load ! (from ! (stop !)) (look ! 10 refl)) tt) (from ! (stop !)) (init ! 6 refl (tt, tt)) $
         rewrite ! 6 (λ (p : ℕ). ‵ (fat fullShare tyPtr l₁₁ 0 (vptr b′ p))) (sym (place-is 72 o′ (i .0))) refl $
-        move ! (2 ∷ 0 ∷ []) $
-        use1 W (Shared 𝓤 (named 1) κ′ b′ o′ γ′ xs ⊛ Shared 𝓤 (named 1) κ′ b′ o′ γ′ xs) (shr-slice-copy 𝓤 H A W (named 1) κ′ (Entries .row) .twice (at-list b′ o′ γ′ xs) (whole-slice b′ o′ xs)) $ split ! $ fsplit ! $ drop ! $ fsplit ! $ drop ! $ move ! (0 ∷ 2 ∷ []) $
-        looks-slice ! tt (Entries .row) (Is (Entries .row)) (shows 𝓤 H A (Entries .row)) (λ (x : Entry). Entries .val x ∷ []) (Entries .tells) (copies 𝓤 H A W) xs b′ o′ (λ q′.
-        elem-out ! (Entries .row) (Is (Entries .row)) (shows 𝓤 H A (Entries .row)) (λ (x : Entry). Entries .val x ∷ []) (Entries .tells) q′ xs (i .0) free b′ o′ (ltb→lt (i .0) (length xs) less) (λ g.
+        move ! (0 ∷ 2 ∷ []) $
+        takes-entry ! tt (named 1) κ′ q₂ b′ o′ γ′ xs (i .0) (ltb→lt (i .0) (length xs) less) (λ q′ g.
         assigns ! (of-opd ! (load ! (from ! (hop ! (look ! 10 refl) (stop !))) (look-raw ! 0 refl))) (from ! (stop !)) (init ! 8 refl (Entries .lawful 𝓤 H A W .typed (getD xs (i .0) free) _ g .0)) $
-        elem-back ! (Entries .row) q′ xs (i .0) free (Entries .val (getD xs (i .0) free) ∷ []) b′ o′ (ltb→lt (i .0) (length xs) less) $ shuts-slice ! tt (Entries .row) q′ xs b′ o′ $ move ! (1 ∷ []) $ drop ! $
+        puts-back ! tt (named 1) κ′ q₂ b′ o′ γ′ xs (i .0) (ltb→lt (i .0) (length xs) less) q′ $
         assigns ! (of-opd ! (load ! (from ! (stop !)) (look ! 4 refl))) (from ! (stop !)) (init ! 16 refl (Entries .lawful 𝓤 H A W .typed (getD xs (i .0) free) _ g .0)) $
         calls-find mem run ! fm known-find (named 1) κ′ q₂ b′ o′ γ′ xs ((getD xs (i .0) free) .number .0) (number-of 𝓤 H A W (getD xs (i .0) free) g) (and-then ! (load ! (from ! (stop !)) (look ! 24 refl)) (and-then ! (load ! (from ! (fld ! refl (fld ! refl (stop !)))) (look-in ! 16 (sub ! 0 refl (sub ! 0 refl (whole !))))) (no-more !))) (λ j h g-j.
         land ! (from ! (stop !)) (init ! 14 refl (Word .lawful 𝓤 H A W .typed j _ g-j .0)) $
@@ -120,7 +119,7 @@ module _ {M : Type 1} (𝓤 : URA M) (H : Heap 𝓤) (A : Atoms 𝓤) (W : Given
         forget ! 6 refl $
         forget ! 4 refl $
         move ! (2 ∷ 0 ∷ 3 ∷ 1 ∷ []) $
-        again ! Nearer At i (to j held s (ltb→lt (i .0) (length xs) less) h h₂ h₃ g-s) (add-one-dec (length xs) (i .0) (ltb→lt (i .0) (length xs) less))))))))
+        again ! Nearer At i (to j held s (ltb→lt (i .0) (length xs) less) h h₂ h₃ g-s) (add-one-dec (length xs) (i .0) (ltb→lt (i .0) (length xs) less)))))))
         (λ past.
         jumps ! $ exec ! C Λ En text.t-4 (atRet En Post) $
         assigns ! (of-opd ! (load ! (from ! (stop !)) (look ! 20 refl))) (from ! (stop !)) (init ! 28 refl (Noteds .lawful 𝓤 H A W .typed (i .1 .0) _ (i .1 .1 .1 .0) .0)) $

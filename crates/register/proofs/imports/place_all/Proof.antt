@@ -12,10 +12,11 @@ use Rattle.entry.specs.declared.entry.Entry.{Entry}
 use Rattle.entry.specs.Entry.{free, joined as joinedOf}
 use Rattle.register.specs.Table.{entryOf, put as putFirst}
 use Rattle.register.specs.Import.{placed, placedAll}
-use Rattle.register.proofs.Kit.{ !, Atoms, Below, Calls, Env, FmC, Fun, GName, Given, Heap, Held, Is, Item, Lft, Loops, Meets, Memory, MutSlice, Out, Room, Routine, SProp, Share, ShrSlice, Sq, Stays, Tables, Triple, URA, Val, Wp, WpFn, _$_, _∵_, _⊛_, addr, afterBlock, afterSeq, afterTurn, again, agg, alloc0, alloc1, and-then, anyQ, assigns, assigns-last, at-slice, atRet, atReturn, bin, blocks, branches, by, cited, closes-slice, codedHoleys, done, drop, elem-back, elem-out, emp, ends-at, ent, enter, entered, erased, exec, fat, fauth, fbor, fdies, first, fjoin, fld, flft, fmOf, fobor, fobs, forget, frame, free0, free1, from, froom, fsplit, fst∗, ftrue, fullShare, givenOf, goes-none-slice, goes-slice, heres, hop, imm, init, join, jumps, land, lit, load, look, look-in, look-raw, looks-slice, loops, meets, move, mut, mut-slice-tells, named, no-more, nothing, now, of-opd, onEntry, only, opens-slice, owned, owns, params1, pass0, pass1, place-is, plain, pointee, pureI, qed, returns, rewrite, row, runs, says, shows, shr-slice-copy, shr-slice-tells, shuts-slice, skips, slice-vals, sliceTy, sliceVal, split, stay-none-slice, stay-slice, stop, store, sub, suffices, tables, tablesOf, tripleOf, tyBool, tyInt, tyPtr, tyRef, tyUnit, unit-lit, use1, via, vint, vptr, w64, walkOf, walked, whole, yes, ‵, ⋆}
+use Rattle.register.proofs.Kit.{ !, Atoms, Below, Calls, Env, FmC, Fun, GName, Given, Heap, Held, Is, Item, Lft, Loops, Meets, Memory, MutSlice, Out, Room, Routine, SProp, Share, ShrSlice, Sq, Stays, Tables, Triple, URA, Val, Wp, WpFn, _$_, _∵_, _⊛_, addr, afterBlock, afterSeq, afterTurn, again, agg, alloc0, alloc1, and-then, anyQ, assigns, assigns-last, at-slice, atRet, atReturn, bin, blocks, branches, by, cited, closes-slice, codedHoleys, done, drop, emp, ends-at, ent, enter, entered, erased, exec, fat, fauth, fbor, fdies, first, fjoin, fld, flft, fmOf, fobor, fobs, forget, frame, free0, free1, from, froom, fsplit, fst∗, ftrue, fullShare, givenOf, goes-none-slice, goes-slice, heres, hop, imm, init, join, jumps, land, lit, load, look, look-in, look-raw, loops, meets, move, mut, mut-slice-tells, named, no-more, nothing, now, of-opd, onEntry, only, opens-slice, owned, owns, params1, pass0, pass1, place-is, plain, pointee, pureI, qed, returns, rewrite, row, runs, says, shr-slice-tells, skips, slice-vals, sliceTy, sliceVal, split, stay-none-slice, stay-slice, stop, store, sub, suffices, tables, tablesOf, tripleOf, tyBool, tyInt, tyPtr, tyRef, tyUnit, unit-lit, via, vint, vptr, w64, walkOf, walked, whole, yes, ‵, ⋆}
 use Rattle.register.proofs.Calls.{Shared}
+use Rattle.register.proofs.Opened.{takes-entry, puts-back}
 use Rattle.register.proofs.Lent.{at-list, whole-slice}
-use Rattle.register.proofs.Sorts.{number-of, Entries, Good, Nothing, copies, env, fits-place, tail}
+use Rattle.register.proofs.Sorts.{number-of, Entries, Good, Nothing, env, fits-place, tail}
 use Rattle.register.proofs.Plain.{Joined, calls-joined}
 use Rattle.register.proofs.Slices.{Lookup, lends-lookup}
 use Rattle.register.proofs.Lends.{Put, lends-put}
@@ -93,12 +94,10 @@ module _ {M : Type 1} (𝓤 : URA M) (H : Heap 𝓤) (A : Atoms 𝓤) (W : Given
         assigns ! (bin ! (load ! (from ! (stop !)) (look ! 28 refl)) (lit ! tt) (record { fits = fits-place (i .0) _ (ltb→lt (i .0) (length xs) less) gm })) (from ! (stop !)) (store ! 22 refl (tt, record { fits = fits-place (i .0) _ (ltb→lt (i .0) (length xs) less) gm })) $
         assigns ! (bin ! (load ! (from ! (fld ! refl (stop !))) (look-in ! 30 (sub ! 0 refl (whole !)))) (load ! (from ! (stop !)) (look ! 22 refl)) tt) (from ! (stop !)) (init ! 18 refl (tt, tt)) $
         rewrite ! 18 (λ (p : ℕ). ‵ (fat fullShare tyPtr l₈ 0 (vptr b′ p))) (sym (place-is 72 o′ (i .0))) refl $
-        move ! (5 ∷ 4 ∷ []) $
-        use1 W (Shared 𝓤 (named 1) κ′ b′ o′ γ′ xs ⊛ Shared 𝓤 (named 1) κ′ b′ o′ γ′ xs) (shr-slice-copy 𝓤 H A W (named 1) κ′ (Entries .row) .twice (at-list b′ o′ γ′ xs) (whole-slice b′ o′ xs)) $ split ! $ fsplit ! $ drop ! $ fsplit ! $ drop ! $ move ! (0 ∷ 2 ∷ []) $
-        looks-slice ! tt (Entries .row) (Is (Entries .row)) (shows 𝓤 H A (Entries .row)) (λ (x : Entry). Entries .val x ∷ []) (Entries .tells) (copies 𝓤 H A W) xs b′ o′ (λ q′.
-        elem-out ! (Entries .row) (Is (Entries .row)) (shows 𝓤 H A (Entries .row)) (λ (x : Entry). Entries .val x ∷ []) (Entries .tells) q′ xs (i .0) free b′ o′ (ltb→lt (i .0) (length xs) less) (λ g.
+        move ! (4 ∷ 5 ∷ []) $
+        takes-entry ! tt (named 1) κ′ q₂ b′ o′ γ′ xs (i .0) (ltb→lt (i .0) (length xs) less) (λ q′ g.
         assigns ! (of-opd ! (load ! (from ! (hop ! (look ! 22 refl) (stop !))) (look-raw ! 0 refl))) (from ! (stop !)) (init ! 20 refl (Entries .lawful 𝓤 H A W .typed (getD xs (i .0) free) _ g .0)) $
-        elem-back ! (Entries .row) q′ xs (i .0) free (Entries .val (getD xs (i .0) free) ∷ []) b′ o′ (ltb→lt (i .0) (length xs) less) $ shuts-slice ! tt (Entries .row) q′ xs b′ o′ $ move ! (1 ∷ []) $ drop ! $
+        puts-back ! tt (named 1) κ′ q₂ b′ o′ γ′ xs (i .0) (ltb→lt (i .0) (length xs) less) q′ $
         assigns ! (of-opd ! (load ! (from ! (stop !)) (look ! 16 refl))) (from ! (stop !)) (init ! 26 refl (Entries .lawful 𝓤 H A W .typed (getD xs (i .0) free) _ g .0)) $
         assigns ! (addr ! (from ! (fld ! refl (hop ! (look-in ! 32 (sub ! 0 refl (whole !))) (stop !))))) (from ! (stop !)) (init ! 14 refl (tt, tt)) $
         assigns ! (agg ! (and-then ! (load ! (from ! (stop !)) (look ! 14 refl)) (and-then ! (load ! (from ! (fld ! refl (stop !))) (look-in ! 32 (sub ! 1 refl (whole !)))) (no-more !)))) (from ! (stop !)) (init ! 12 refl (tt, (tt, (record { fits = gn .0 }, tt)))) $
@@ -126,7 +125,7 @@ module _ {M : Type 1} (𝓤 : URA M) (H : Heap 𝓤) (A : Atoms 𝓤) (W : Given
         forget ! 8 refl $
         forget ! 6 refl $
         move ! (0 ∷ 3 ∷ 4 ∷ 5 ∷ 1 ∷ 2 ∷ []) $
-        again ! Nearer At i (to held r zs (ltb→lt (i .0) (length xs) less) lz h h₂ h₃) (add-one-dec (length xs) (i .0) (ltb→lt (i .0) (length xs) less))))))))
+        again ! Nearer At i (to held r zs (ltb→lt (i .0) (length xs) less) lz h h₂ h₃) (add-one-dec (length xs) (i .0) (ltb→lt (i .0) (length xs) less)))))))
         (λ past.
         jumps ! $ exec ! C Λ En text.t-3 (atRet En Post) $
         closes-slice ! tt (Entries .row) ys (i .1 .0) (i .1 .1 .1 .0) b o $

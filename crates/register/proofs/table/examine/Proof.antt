@@ -14,10 +14,11 @@ use Rattle.entry.specs.declared.testing.Seen.{Seen}
 use Rattle.entry.specs.Entry.{free}
 use Rattle.entry.specs.Testing.{seen, nothingSeen}
 use Rattle.register.specs.Table.{firstAt, badTable, places}
-use Rattle.register.proofs.Kit.{ !, Atoms, Below, Calls, Env, FmC, Fun, GName, Given, Heap, Is, Item, Lft, Loops, Meets, Memory, Out, Room, Routine, SProp, Share, ShrSlice, Sq, Stays, Tables, Triple, URA, Val, Wp, WpFn, _$_, _∵_, _⊛_, afterBlock, afterSeq, afterTurn, again, alloc0, alloc1, and-then, anyQ, assigns, assigns-last, atRet, atReturn, bin, blocks, branches, by, cited, done, drop, elem-back, elem-out, emp, ends-at, ent, enter, entered, exec, fat, fdies, first, fjoin, fld, flft, fmOf, forget, frame, free0, free1, from, froom, fsplit, fst∗, ftrue, fullShare, givenOf, goes-none-slice, hop, imm, init, join, jumps, land, lit, load, look, look-in, look-raw, looks-slice, loops, meets, move, named, no-more, nothing, now, of-opd, onEntry, only, owned, owns, params1, pass0, pass1, place-is, plain, pointee, qed, returns, rewrite, row, runs, says, shows, shr-slice-copy, shr-slice-tells, shuts-slice, skips, slice-vals, sliceTy, split, stay-none-slice, stop, store, sub, suffices, tables, tablesOf, tripleOf, tyBool, tyInt, tyPtr, tyRef, use1, via, vint, vptr, w64, walkOf, walked, whole, yes, ‵, ⋆}
+use Rattle.register.proofs.Kit.{ !, Atoms, Below, Calls, Env, FmC, Fun, GName, Given, Heap, Is, Item, Lft, Loops, Meets, Memory, Out, Room, Routine, SProp, Share, ShrSlice, Sq, Stays, Tables, Triple, URA, Val, Wp, WpFn, _$_, _∵_, _⊛_, afterBlock, afterSeq, afterTurn, again, alloc0, alloc1, and-then, anyQ, assigns, assigns-last, atRet, atReturn, bin, blocks, branches, by, cited, done, drop, emp, ends-at, ent, enter, entered, exec, fat, fdies, first, fjoin, fld, flft, fmOf, forget, frame, free0, free1, from, froom, fsplit, fst∗, ftrue, fullShare, givenOf, goes-none-slice, hop, imm, init, join, jumps, land, lit, load, look, look-in, look-raw, loops, meets, move, named, no-more, nothing, now, of-opd, onEntry, only, owned, owns, params1, pass0, pass1, place-is, plain, pointee, qed, returns, rewrite, row, runs, says, shr-slice-tells, skips, slice-vals, sliceTy, split, stay-none-slice, stop, store, sub, suffices, tables, tablesOf, tripleOf, tyBool, tyInt, tyPtr, tyRef, via, vint, vptr, w64, walkOf, walked, whole, yes, ‵, ⋆}
 use Rattle.register.proofs.Calls.{Shared}
+use Rattle.register.proofs.Opened.{takes-entry, puts-back}
 use Rattle.register.proofs.Lent.{at-list, whole-slice}
-use Rattle.register.proofs.Sorts.{number-of, Entries, Good, Seens, Word, copies, env, fits-place, tail}
+use Rattle.register.proofs.Sorts.{number-of, Entries, Good, Seens, Word, env, fits-place, tail}
 use Rattle.register.proofs.Plain.{NothingSeen, See, calls-nothing-seen, calls-see}
 use Rattle.register.proofs.Slices.{Find, calls-find}
 use Rattle.register.proofs.Tests.{seenFrom, seen-next, seen-end, seen-room, seen-all}
@@ -94,12 +95,9 @@ module _ {M : Type 1} (𝓤 : URA M) (H : Heap 𝓤) (A : Atoms 𝓤) (W : Given
         assigns ! (bin ! (load ! (from ! (stop !)) (look ! 14 refl)) (lit ! tt) (record { fits = fits-place (i .0) _ (ltb→lt (i .0) (length ys) less) gn })) (from ! (stop !)) (store ! 8 refl (tt, record { fits = fits-place (i .0) _ (ltb→lt (i .0) (length ys) less) gn })) $
         assigns ! (bin ! (load ! (from ! (fld ! refl (stop !))) (look-in ! 18 (sub ! 0 refl (whole !)))) (load ! (from ! (stop !)) (look ! 8 refl)) tt) (from ! (stop !)) (init ! 4 refl (tt, tt)) $
         rewrite ! 4 (λ (p : ℕ). ‵ (fat fullShare tyPtr l₈ 0 (vptr b p))) (sym (place-is 72 o (i .0))) refl $
-        move ! (1 ∷ 0 ∷ []) $
-        use1 W (Shared 𝓤 (named 0) κ b o γ ys ⊛ Shared 𝓤 (named 0) κ b o γ ys) (shr-slice-copy 𝓤 H A W (named 0) κ (Entries .row) .twice (at-list b o γ ys) (whole-slice b o ys)) $ split ! $ fsplit ! $ drop ! $ fsplit ! $ drop ! $ move ! (0 ∷ 2 ∷ []) $
-        looks-slice ! tt (Entries .row) (Is (Entries .row)) (shows 𝓤 H A (Entries .row)) (λ (x : Entry). Entries .val x ∷ []) (Entries .tells) (copies 𝓤 H A W) ys b o (λ q′.
-        elem-out ! (Entries .row) (Is (Entries .row)) (shows 𝓤 H A (Entries .row)) (λ (x : Entry). Entries .val x ∷ []) (Entries .tells) q′ ys (i .0) free b o (ltb→lt (i .0) (length ys) less) (λ g.
+        takes-entry ! tt (named 0) κ q b o γ ys (i .0) (ltb→lt (i .0) (length ys) less) (λ q′ g.
         assigns ! (of-opd ! (load ! (from ! (hop ! (look ! 8 refl) (stop !))) (look-raw ! 0 refl))) (from ! (stop !)) (init ! 6 refl (Entries .lawful 𝓤 H A W .typed (getD ys (i .0) free) _ g .0)) $
-        elem-back ! (Entries .row) q′ ys (i .0) free (Entries .val (getD ys (i .0) free) ∷ []) b o (ltb→lt (i .0) (length ys) less) $ shuts-slice ! tt (Entries .row) q′ ys b o $ move ! (1 ∷ []) $ drop ! $
+        puts-back ! tt (named 0) κ q b o γ ys (i .0) (ltb→lt (i .0) (length ys) less) q′ $
         assigns ! (of-opd ! (load ! (from ! (stop !)) (look ! 2 refl))) (from ! (stop !)) (init ! 12 refl (Entries .lawful 𝓤 H A W .typed (getD ys (i .0) free) _ g .0)) $
         calls-find mem run ! fm known-find (named 0) κ q b o γ ys ((getD ys (i .0) free) .number .0) (number-of 𝓤 H A W (getD ys (i .0) free) g) (and-then ! (load ! (from ! (stop !)) (look ! 18 refl)) (and-then ! (load ! (from ! (fld ! refl (fld ! refl (stop !)))) (look-in ! 12 (sub ! 0 refl (sub ! 0 refl (whole !))))) (no-more !))) (λ j h g-j.
         land ! (from ! (stop !)) (init ! 10 refl (Word .lawful 𝓤 H A W .typed j _ g-j .0)) $
@@ -112,7 +110,7 @@ module _ {M : Type 1} (𝓤 : URA M) (H : Heap 𝓤) (A : Atoms 𝓤) (W : Given
         forget ! 6 refl $
         forget ! 4 refl $
         forget ! 2 refl $
-        again ! Nearer At i (to j s (ltb→lt (i .0) (length ys) less) h h₂ g-s) (add-one-dec (length ys) (i .0) (ltb→lt (i .0) (length ys) less)))))))
+        again ! Nearer At i (to j s (ltb→lt (i .0) (length ys) less) h h₂ g-s) (add-one-dec (length ys) (i .0) (ltb→lt (i .0) (length ys) less))))))
         (λ past.
         jumps ! $ exec ! C Λ En text.t-4 (atRet En Post) $
         assigns ! (of-opd ! (load ! (from ! (stop !)) (look ! 16 refl))) (from ! (stop !)) (init ! 20 refl (Seens .lawful 𝓤 H A W .typed (i .1 .0) _ (i .1 .1 .1 .0) .0)) $

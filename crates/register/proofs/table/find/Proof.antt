@@ -12,10 +12,11 @@ use lib.WfN.{Nat·lt-wfRel}
 use Rattle.entry.specs.declared.entry.Entry.{Entry}
 use Rattle.entry.specs.Entry.{free}
 use Rattle.register.specs.Table.{firstAt}
-use Rattle.register.proofs.Kit.{ !, Atoms, Below, Calls, Env, Fun, GName, Given, Heap, Is, Item, Lft, Loops, Meets, Memory, Out, Room, Routine, SProp, Share, ShrSlice, Sq, Stays, Tables, URA, Val, Wp, WpFn, _$_, _∵_, _⊛_, afterBlock, afterSeq, afterTurn, again, alloc0, alloc1, anyQ, assigns, assigns-last, atRet, atReturn, bin, blocks, branches, by, done, drop, elem-back, elem-out, emp, ends-at, ent, enter, entered, exec, fat, fdies, first, fjoin, fld, flft, forget, frame, free0, free1, from, froom, fsplit, fst∗, ftrue, fullShare, givenOf, goes-none, goes-none-slice, hop, imm, init, join, jumps, lit, load, look, look-in, look-raw, looks-slice, loops, meets, move, named, nothing, now, of-opd, onEntry, only, owned, owns, params1, pass0, pass1, place-is, plain, pointee, qed, returns, returns-within, rewrite, row, runs, says, shows, shr-slice-copy, shr-slice-tells, shuts-slice, skips, slice-vals, sliceTy, split, stay-none, stay-none-slice, stop, store, sub, suffices, tables, tablesOf, tripleOf, tyBool, tyInt, tyPtr, tyRef, u64, uint-vals, use1, via, vint, vptr, w64, walkOf, walked, whole, yes, ‵, ⋆}
+use Rattle.register.proofs.Kit.{ !, Atoms, Below, Calls, Env, Fun, GName, Given, Heap, Is, Item, Lft, Loops, Meets, Memory, Out, Room, Routine, SProp, Share, ShrSlice, Sq, Stays, Tables, URA, Val, Wp, WpFn, _$_, _∵_, _⊛_, afterBlock, afterSeq, afterTurn, again, alloc0, alloc1, anyQ, assigns, assigns-last, atRet, atReturn, bin, blocks, branches, by, done, drop, emp, ends-at, ent, enter, entered, exec, fat, fdies, first, fjoin, fld, flft, forget, frame, free0, free1, from, froom, fsplit, fst∗, ftrue, fullShare, givenOf, goes-none, goes-none-slice, hop, imm, init, join, jumps, lit, load, look, look-in, look-raw, loops, meets, move, named, nothing, now, of-opd, onEntry, only, owned, owns, params1, pass0, pass1, place-is, plain, pointee, qed, returns, returns-within, rewrite, row, runs, says, shr-slice-tells, skips, slice-vals, sliceTy, split, stay-none, stay-none-slice, stop, store, sub, suffices, tables, tablesOf, tripleOf, tyBool, tyInt, tyPtr, tyRef, u64, uint-vals, via, vint, vptr, w64, walkOf, walked, whole, yes, ‵, ⋆}
 use Rattle.register.proofs.Calls.{Shared}
+use Rattle.register.proofs.Opened.{takes-entry, puts-back}
 use Rattle.register.proofs.Lent.{at-list, whole-slice}
-use Rattle.register.proofs.Sorts.{Entries, Good, Word, copies, env, fails, fits-place, holds, tail}
+use Rattle.register.proofs.Sorts.{Entries, Good, Word, env, fails, fits-place, holds, tail}
 use Rattle.register.proofs.Places.{Passed, start, here, next, over}
 use Rattle.register.proofs.table.find as self
 use Rattle.register.proofs.table.find.Key.{name as #find}
@@ -81,12 +82,9 @@ module _ {M : Type 1} (𝓤 : URA M) (H : Heap 𝓤) (A : Atoms 𝓤) (W : Given
         assigns ! (bin ! (load ! (from ! (stop !)) (look ! 12 refl)) (lit ! tt) (record { fits = fits-place (i .0) _ (ltb→lt (i .0) (length ys) less) gn })) (from ! (stop !)) (store ! 8 refl (tt, record { fits = fits-place (i .0) _ (ltb→lt (i .0) (length ys) less) gn })) $
         assigns ! (bin ! (load ! (from ! (fld ! refl (stop !))) (look-in ! 16 (sub ! 0 refl (whole !)))) (load ! (from ! (stop !)) (look ! 8 refl)) tt) (from ! (stop !)) (init ! 4 refl (tt, tt)) $
         rewrite ! 4 (λ (p : ℕ). ‵ (fat fullShare tyPtr l₇ 0 (vptr b p))) (sym (place-is 72 o (i .0))) refl $
-        move ! (1 ∷ 0 ∷ []) $
-        use1 W (Shared 𝓤 (named 0) κ b o γ ys ⊛ Shared 𝓤 (named 0) κ b o γ ys) (shr-slice-copy 𝓤 H A W (named 0) κ (Entries .row) .twice (at-list b o γ ys) (whole-slice b o ys)) $ split ! $ fsplit ! $ drop ! $ fsplit ! $ drop ! $ move ! (0 ∷ 2 ∷ []) $
-        looks-slice ! tt (Entries .row) (Is (Entries .row)) (shows 𝓤 H A (Entries .row)) (λ (x : Entry). Entries .val x ∷ []) (Entries .tells) (copies 𝓤 H A W) ys b o (λ q′.
-        elem-out ! (Entries .row) (Is (Entries .row)) (shows 𝓤 H A (Entries .row)) (λ (x : Entry). Entries .val x ∷ []) (Entries .tells) q′ ys (i .0) free b o (ltb→lt (i .0) (length ys) less) (λ g.
+        takes-entry ! tt (named 0) κ q b o γ ys (i .0) (ltb→lt (i .0) (length ys) less) (λ q′ g.
         assigns ! (of-opd ! (load ! (from ! (hop ! (look ! 8 refl) (stop !))) (look-raw ! 0 refl))) (from ! (stop !)) (init ! 6 refl (Entries .lawful 𝓤 H A W .typed (getD ys (i .0) free) _ g .0)) $
-        elem-back ! (Entries .row) q′ ys (i .0) free (Entries .val (getD ys (i .0) free) ∷ []) b o (ltb→lt (i .0) (length ys) less) $ shuts-slice ! tt (Entries .row) q′ ys b o $ move ! (1 ∷ []) $ drop ! $
+        puts-back ! tt (named 0) κ q b o γ ys (i .0) (ltb→lt (i .0) (length ys) less) q′ $
         assigns ! (of-opd ! (load ! (from ! (stop !)) (look ! 2 refl))) (from ! (stop !)) (init ! 10 refl (Entries .lawful 𝓤 H A W .typed (getD ys (i .0) free) _ g .0)) $
         assigns ! (bin ! (load ! (from ! (fld ! refl (fld ! refl (stop !)))) (look-in ! 10 (sub ! 0 refl (sub ! 0 refl (whole !))))) (load ! (from ! (stop !)) (look ! 14 refl)) tt) (from ! (stop !)) (store ! 6 refl (tt, tt)) $
         first ! $ branches ! (load ! (from ! (stop !)) (look ! 6 refl))
@@ -104,7 +102,7 @@ module _ {M : Type 1} (𝓤 : URA M) (H : Heap 𝓤) (A : Atoms 𝓤) (W : Given
         forget ! 6 refl $
         forget ! 4 refl $
         forget ! 2 refl $
-        again ! Nearer At i (to (ltb→lt (i .0) (length ys) less) missed) (add-one-dec (length ys) (i .0) (ltb→lt (i .0) (length ys) less))))))
+        again ! Nearer At i (to (ltb→lt (i .0) (length ys) less) missed) (add-one-dec (length ys) (i .0) (ltb→lt (i .0) (length ys) less)))))
         (λ past.
         jumps ! $ exec ! C Λ En text.t-3 (atRet En Post) $
         assigns ! (of-opd ! (load ! (from ! (stop !)) (look ! 12 refl))) (from ! (stop !)) (init ! 18 refl (tt, record { fits = fits i })) $

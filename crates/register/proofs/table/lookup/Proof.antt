@@ -7,10 +7,11 @@ use lib.ListN.{length, getD}
 use Rattle.entry.specs.declared.entry.Entry.{Entry}
 use Rattle.entry.specs.Entry.{free}
 use Rattle.register.specs.Table.{entryOf}
-use Rattle.register.proofs.Kit.{ !, Atoms, FmC, Fun, GName, Given, Heap, Is, Lft, Meets, Memory, Room, Routine, SProp, Share, ShrSlice, Stays, Tables, Triple, URA, Val, WpFn, _$_, _∵_, _⊛_, alloc0, alloc1, and-then, assigns, atRet, bin, branches, by, cited, done, drop, elem-back, elem-out, emp, ends-at, ent, enter, entered, exec, fat, first, fjoin, fld, flft, fmOf, forget, frame, free0, free1, from, fsplit, fst∗, ftrue, fullShare, givenOf, goes-none, goes-none-slice, hop, imm, init, join, land, lit, load, look, look-in, look-raw, looks-slice, meets, move, named, no-more, nothing, now, of-opd, onEntry, only, owned, owns, params1, pass0, pass1, place-is, plain, pointee, qed, returns, returns-within, rewrite, row, says, shows, shr-slice-copy, shr-slice-tells, shuts-slice, skips, slice-vals, sliceTy, split, stay-none, stay-none-slice, stop, sub, suffices, tables, tablesOf, tripleOf, tyBool, tyInt, tyPtr, tyRef, use1, via, vptr, w64, walkOf, walked, whole, yes, ‵, ⋆}
+use Rattle.register.proofs.Kit.{ !, Atoms, FmC, Fun, GName, Given, Heap, Is, Lft, Meets, Memory, Room, Routine, SProp, Share, ShrSlice, Stays, Tables, Triple, URA, Val, WpFn, _$_, _∵_, _⊛_, alloc0, alloc1, and-then, assigns, atRet, bin, branches, by, cited, done, drop, emp, ends-at, ent, enter, entered, exec, fat, first, fjoin, fld, flft, fmOf, forget, frame, free0, free1, from, fsplit, fst∗, ftrue, fullShare, givenOf, goes-none, goes-none-slice, hop, imm, init, join, land, lit, load, look, look-in, look-raw, meets, move, named, no-more, nothing, now, of-opd, onEntry, only, owned, owns, params1, pass0, pass1, place-is, plain, pointee, qed, returns, returns-within, rewrite, row, says, shr-slice-tells, skips, slice-vals, sliceTy, split, stay-none, stay-none-slice, stop, sub, suffices, tables, tablesOf, tripleOf, tyBool, tyInt, tyPtr, tyRef, via, vptr, w64, walkOf, walked, whole, yes, ‵, ⋆}
 use Rattle.register.proofs.Calls.{Shared}
+use Rattle.register.proofs.Opened.{takes-entry, puts-back}
 use Rattle.register.proofs.Lent.{at-list, whole-slice}
-use Rattle.register.proofs.Sorts.{Entries, Good, Word, copies, env, fits-place}
+use Rattle.register.proofs.Sorts.{Entries, Good, Word, env, fits-place}
 use Rattle.register.proofs.Plain.{Free, calls-free}
 use Rattle.register.proofs.Slices.{Find, calls-find}
 use Rattle.register.proofs.Places.{found, absent}
@@ -60,17 +61,14 @@ module _ {M : Type 1} (𝓤 : URA M) (H : Heap 𝓤) (A : Atoms 𝓤) (W : Given
       assigns ! (bin ! (load ! (from ! (stop !)) (look ! 12 refl)) (lit ! tt) (record { fits = fits-place i _ (ltb→lt i (length ys) less) gn })) (from ! (stop !)) (init ! 6 refl (tt, record { fits = fits-place i _ (ltb→lt i (length ys) less) gn })) $
       assigns ! (bin ! (load ! (from ! (fld ! refl (stop !))) (look-in ! 16 (sub ! 0 refl (whole !)))) (load ! (from ! (stop !)) (look ! 6 refl)) tt) (from ! (stop !)) (init ! 4 refl (tt, tt)) $
       rewrite ! 4 (λ (p : ℕ). ‵ (fat fullShare tyPtr l₇ 0 (vptr b p))) (sym (place-is 72 o i)) refl $
-      move ! (1 ∷ 0 ∷ []) $
-      use1 W (Shared 𝓤 (named 0) κ b o γ ys ⊛ Shared 𝓤 (named 0) κ b o γ ys) (shr-slice-copy 𝓤 H A W (named 0) κ (Entries .row) .twice (at-list b o γ ys) (whole-slice b o ys)) $ split ! $ fsplit ! $ drop ! $ fsplit ! $ drop ! $ move ! (0 ∷ 2 ∷ []) $
-      looks-slice ! tt (Entries .row) (Is (Entries .row)) (shows 𝓤 H A (Entries .row)) (λ (x : Entry). Entries .val x ∷ []) (Entries .tells) (copies 𝓤 H A W) ys b o (λ q′.
-      elem-out ! (Entries .row) (Is (Entries .row)) (shows 𝓤 H A (Entries .row)) (λ (x : Entry). Entries .val x ∷ []) (Entries .tells) q′ ys i free b o (ltb→lt i (length ys) less) (λ g.
+      takes-entry ! tt (named 0) κ q b o γ ys i (ltb→lt i (length ys) less) (λ q′ g.
       assigns ! (of-opd ! (load ! (from ! (hop ! (look ! 8 refl) (stop !))) (look-raw ! 0 refl))) (from ! (stop !)) (init ! 6 refl (Entries .lawful 𝓤 H A W .typed (getD ys i free) _ g .0)) $
-      elem-back ! (Entries .row) q′ ys i free (Entries .val (getD ys i free) ∷ []) b o (ltb→lt i (length ys) less) $ shuts-slice ! tt (Entries .row) q′ ys b o $ move ! (1 ∷ []) $ drop ! $
+      puts-back ! tt (named 0) κ q b o γ ys i (ltb→lt i (length ys) less) q′ $
       assigns ! (of-opd ! (load ! (from ! (stop !)) (look ! 2 refl))) (from ! (stop !)) (init ! 18 refl (Entries .lawful 𝓤 H A W .typed (getD ys i free) _ g .0)) $
       returns-within ! Post refl (look ! 18 refl) $
       forget ! 2 refl $ forget ! 4 refl $ forget ! 6 refl $ forget ! 8 refl $ forget ! 10 refl $ forget ! 12 refl $ forget ! 14 refl $ forget ! 16 refl $ forget ! 18 refl $
       move ! (18 ∷ 19 ∷ 16 ∷ 17 ∷ 14 ∷ 15 ∷ 12 ∷ 13 ∷ 10 ∷ 11 ∷ 8 ∷ 9 ∷ 6 ∷ 7 ∷ 4 ∷ 5 ∷ 2 ∷ 3 ∷ []) $ free1 ! $ free1 ! $ free1 ! $ free1 ! $ free1 ! $ free1 ! $ free1 ! $ free1 ! $ free1 ! $ free0 ! $
-      by ! (exits (getD ys i free) g (found ys v i h (ltb→lt i (length ys) less))))))
+      by ! (exits (getD ys i free) g (found ys v i h (ltb→lt i (length ys) less)))))
       (λ past.
       skips ! $ exec ! (𝓣 .C) (𝓣 .Λ) ((Entries .ty, l₀) ∷ (sliceTy (tyRef (named 0) imm (pointee (Entries .row .written))), l₁) ∷ (tyInt w64, l₂) ∷ (tyInt w64, l₃) ∷ (tyInt w64, l₄) ∷ (tyBool, l₅) ∷ (tyInt w64, l₆) ∷ (tyPtr, l₇) ∷ (Entries .ty, l₈) ∷ []) text.t-5 (atRet ((Entries .ty, l₀) ∷ (sliceTy (tyRef (named 0) imm (pointee (Entries .row .written))), l₁) ∷ (tyInt w64, l₂) ∷ (tyInt w64, l₃) ∷ (tyInt w64, l₄) ∷ (tyBool, l₅) ∷ (tyInt w64, l₆) ∷ (tyPtr, l₇) ∷ (Entries .ty, l₈) ∷ []) Post) $
       calls-free mem run ! fm known-free (no-more !) (λ r h₂ g₂.
