@@ -5,15 +5,16 @@ ghost use lib.Signed.{_≤ℤ_};
 use certificate::Certificate;
 use certificate::CertificateAnswer;
 use certificate::Record;
+use draws::say_law;
 use evidence::ONE;
 use evidence::say;
 use evidence::say_natural;
+use evidence::say_refused;
 use evidence::say_signed;
 use quantity::Celsius;
 use quantity::Nanoohm;
 use quantity::Ratio;
 use quantity::RatioAnswer;
-use quantity::Refusal;
 use reading::JudgementAnswer;
 use reading::ReadingAnswer;
 use scale::Ag;
@@ -26,29 +27,6 @@ use scale::Subrange;
 
 // R0 is one ohm, so that R in nanoohms is the ratio in its units.
 const OHM: u64 = 1_000_000_000;
-
-fn refused(why: Refusal) {
-    say(b" refused");
-    say_natural(why.number() as u64, ONE);
-}
-
-fn subrange_name(subrange: Subrange) {
-    match subrange {
-        Subrange::Ga => say(b" ga"),
-        Subrange::In => say(b" in"),
-        Subrange::Sn => say(b" sn"),
-        Subrange::Zn => say(b" zn"),
-        Subrange::Al => say(b" al"),
-        Subrange::Ag => say(b" ag"),
-    }
-}
-
-fn law_name(law: Law) {
-    match law {
-        Law::Curve => say(b" curve"),
-        Law::Scale(subrange) => subrange_name(subrange),
-    }
-}
 
 // ---- the working value of the reference function
 
@@ -69,10 +47,10 @@ fn reading_said(answer: ReadingAnswer) {
         ReadingAnswer::Read(reading) => {
             let law = reading.law;
             let step = reading.step;
-            law_name(law);
+            say_law(law);
             say_signed(step.0, ONE);
         }
-        ReadingAnswer::Refused(why) => refused(why),
+        ReadingAnswer::Refused(why) => say_refused(why.number() as u64),
     }
 }
 
@@ -102,7 +80,7 @@ fn by_curve(card: &[u8], w: u64) {
 fn places(k: Certificate) {
     let law = k.law;
     let wal = k.wal;
-    law_name(law);
+    say_law(law);
     say_signed(k.a, ONE);
     say_signed(k.b, ONE);
     say_signed(k.c, ONE);
@@ -116,7 +94,7 @@ fn certificate_said(answer: CertificateAnswer) {
             say(b" certificate");
             places(k);
         }
-        CertificateAnswer::Refused(why) => refused(why),
+        CertificateAnswer::Refused(why) => say_refused(why.number() as u64),
     }
 }
 
@@ -150,7 +128,7 @@ fn divides(card: &[u8], r: u64, r0: u64) {
     say_natural(r0, ONE);
     match quantity::ratio_of(Nanoohm(r), Nanoohm(r0)) {
         RatioAnswer::Ratio(w) => say_natural(w.0, ONE),
-        RatioAnswer::Refused(why) => refused(why),
+        RatioAnswer::Refused(why) => say_refused(why.number() as u64),
     }
     say(b"\n");
 }
@@ -179,7 +157,7 @@ fn judgement_said(answer: JudgementAnswer) {
             verdict(judgement.passes);
             say_signed(judgement.error, ONE);
         }
-        JudgementAnswer::Refused(why) => refused(why),
+        JudgementAnswer::Refused(why) => say_refused(why.number() as u64),
     }
 }
 

@@ -40,15 +40,10 @@ fn any_step(g: Generator) -> Signed
     }
 }
 
-fn refused_text(line: &mut [u8], from: usize, why: quantity::Refusal) -> usize {
-    let at = evidence::text(line, from, b" refused");
-    evidence::natural(line, at, why.number() as u64)
-}
-
 fn reading_text(line: &mut [u8], from: usize, reading: StepAnswer) -> usize {
     match reading {
         StepAnswer::At(step) => evidence::signed(line, from, step.0),
-        StepAnswer::Refused(why) => refused_text(line, from, why),
+        StepAnswer::Refused(why) => evidence::refused(line, from, why.number() as u64),
     }
 }
 
@@ -192,7 +187,7 @@ fn forward_text(line: &mut [u8], from: usize, answer: RatioAnswer) -> usize {
             let at = evidence::natural(line, from, w.0);
             reading_text(line, at, curve::read(w))
         }
-        RatioAnswer::Refused(why) => refused_text(line, from, why),
+        RatioAnswer::Refused(why) => evidence::refused(line, from, why.number() as u64),
     }
 }
 
@@ -402,7 +397,7 @@ fn verdict_text(line: &mut [u8], from: usize, verdict: Verdict) -> usize {
             let at = evidence::text(line, from, b" fail");
             evidence::signed(line, at, error)
         }
-        Verdict::Refused(why) => refused_text(line, from, why),
+        Verdict::Refused(why) => evidence::refused(line, from, why.number() as u64),
     }
 }
 

@@ -3,6 +3,7 @@ ghost use Prim.Native.Nat.{_≤_, _^_};
 ghost use lib.IntN.{natAbs};
 use evidence::Drawn;
 use evidence::Generator;
+use evidence::say;
 use scale::Ag;
 use scale::Al;
 use scale::CURVE;
@@ -66,6 +67,24 @@ pub fn law_text(line: &mut [u8], from: usize, law: Law) -> usize {
     match law {
         Law::Curve => evidence::text(line, from, b" curve"),
         Law::Scale(subrange) => subrange_text(line, from, subrange),
+    }
+}
+
+fn say_subrange(subrange: Subrange) {
+    match subrange {
+        Subrange::Ga => say(b" ga"),
+        Subrange::In => say(b" in"),
+        Subrange::Sn => say(b" sn"),
+        Subrange::Zn => say(b" zn"),
+        Subrange::Al => say(b" al"),
+        Subrange::Ag => say(b" ag"),
+    }
+}
+
+pub fn say_law(law: Law) {
+    match law {
+        Law::Curve => say(b" curve"),
+        Law::Scale(subrange) => say_subrange(subrange),
     }
 }
 

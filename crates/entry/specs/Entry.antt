@@ -25,7 +25,7 @@ isUnsound k = eqb (fault k) 7
 abbrev pub isBad : Given → Bool
 isBad k = not (eqb (fault k) 0)
 
--- Neither of two numbers is under the other.
+-- Two numbers are one where neither is under the other.
 abbrev pub alike : ℤ → ℤ → Bool
 alike x y = not (ltZ x y) && not (ltZ y x)
 
@@ -48,7 +48,7 @@ free =
       certificate = record { law = record { 0 = 0 }; a = pos 0; b = pos 0; c = pos 0; d = pos 0; wal = record { 0 = 0 } };
     }
 
--- A certificate is live only when its serial is above the mark.
+-- A thermometer's certificate is live exactly when its serial is above the mark.
 abbrev pub isLive : Entry → Bool
 isLive e = not (isFree e) && ltb (e .mark .0) (e .serial .0)
 

@@ -1,4 +1,5 @@
--- What the tests of a table and of a list take note of, entry by entry.
+-- What the tests of a table and of a list take note of, entry by entry: steps of the register's code. What they come to is said of whole tables and lists in
+-- `Table` and `Import` of `register`, and the promises of its calls cite those.
 use mathlib.Core.Bool.{Bool, false, _&&_, _||_, not}
 use Prim.Native.Nat.{ℕ, _+_, _-_}
 use lib.Dec.{eqb}

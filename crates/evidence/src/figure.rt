@@ -47,3 +47,9 @@ pub fn say_signed(z: i64, unit: u64) {
     }
     say_natural(size, unit);
 }
+
+// A refusal by its number.
+pub fn say_refused(number: u64) {
+    say(b" refused");
+    say_natural(number, ONE);
+}

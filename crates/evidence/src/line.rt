@@ -45,6 +45,12 @@ pub fn natural(line: &mut [u8], at: usize, n: u64) -> usize {
     number(line, next, n)
 }
 
+// A refusal by its number.
+pub fn refused(line: &mut [u8], at: usize, number: u64) -> usize {
+    let next = text(line, at, b" refused");
+    natural(line, next, number)
+}
+
 pub fn signed(line: &mut [u8], at: usize, z: i64) -> usize {
     let size = whole::magnitude(z);
     if whole::less(z, 0) {

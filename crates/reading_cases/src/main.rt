@@ -17,7 +17,6 @@ use evidence::Written;
 use quantity::Celsius;
 use quantity::Nanoohm;
 use quantity::Ratio;
-use quantity::Refusal;
 use reading::ForwardAnswer;
 use reading::JudgementAnswer;
 use reading::ReadingAnswer;
@@ -223,11 +222,6 @@ fn step_at(law: u64, place: u64, up: u64, down: u64) -> i64
 
 // ---- lines
 
-fn refused_text(line: &mut [u8], from: usize, why: Refusal) -> usize {
-    let at = evidence::text(line, from, b" refused");
-    evidence::natural(line, at, why.number() as u64)
-}
-
 fn reading_text(line: &mut [u8], from: usize, answer: ReadingAnswer) -> usize {
     match answer {
         ReadingAnswer::Read(reading) => {
@@ -236,7 +230,7 @@ fn reading_text(line: &mut [u8], from: usize, answer: ReadingAnswer) -> usize {
             let at = law_text(line, from, law);
             evidence::signed(line, at, step.0)
         }
-        ReadingAnswer::Refused(why) => refused_text(line, from, why),
+        ReadingAnswer::Refused(why) => evidence::refused(line, from, why.number() as u64),
     }
 }
 
@@ -436,7 +430,7 @@ fn forward_text(line: &mut [u8], from: usize, k: Certificate, answer: ForwardAns
                 read_by(k, 25 * (ratio.0 % 8_000_000_000), 25_000_000_000),
             )
         }
-        ForwardAnswer::Refused(why) => refused_text(line, from, why),
+        ForwardAnswer::Refused(why) => evidence::refused(line, from, why.number() as u64),
     }
 }
 
@@ -589,7 +583,7 @@ fn judgement_text(line: &mut [u8], from: usize, answer: JudgementAnswer) -> usiz
             at = verdict_text(line, at, passes);
             evidence::signed(line, at, j.error)
         }
-        JudgementAnswer::Refused(why) => refused_text(line, from, why),
+        JudgementAnswer::Refused(why) => evidence::refused(line, from, why.number() as u64),
     }
 }
 

@@ -51,7 +51,9 @@ pub record Keeps (table left : List Entry) : Type 0 where
 
 -- The table keeps its places, and a thermometer stays at the one that it has.
 abbrev pub KeepsPlaces : Type 0
-KeepsPlaces = ((table list : List Entry) → Keeps table (imported table list)) × ((table : List Entry) (n : ℕ) (serial : Serial) → Keeps table (withdrawn table n serial))
+KeepsPlaces =
+    ((table list : List Entry) → Keeps table (imported table list))
+    × ((table : List Entry) (n : ℕ) (serial : Serial) → Keeps table (withdrawn table n serial))
 
 -- ---- imports
 -- An accepted import leaves of each thermometer what the table had of it joined with what the list has of it; one that the list does not name keeps its entry.
@@ -89,9 +91,13 @@ ReadsLive =
     (table : List Entry) (n r r0 : ℕ) (o : Outcome) → ReadThrough table n r r0 o → o .code ≡ 0
     → let held = entryOf table n in (isLive held ≡ true) × ReadGiven (held .certificate) r r0 o
 
--- Every certificate held in a table that is not bad is good, so no reading through the register is refused by 3 or 7.
+-- Every certificate held in a table that is not bad is good.
 abbrev pub HeldGood : Type 0
 HeldGood = (table : List Entry) (n : ℕ) → badTable table ≡ false → isFree (entryOf table n) ≡ false → fault (entryOf table n .certificate) ≡ 0
+
+-- So no reading through the register is refused by 3 or 7.
+abbrev pub ThroughGood : Type 0
+ThroughGood = (table : List Entry) (n r r0 : ℕ) (o : Outcome) → ReadThrough table n r r0 o → (eqb (o .code) 3 ≡ false) × (eqb (o .code) 7 ≡ false)
 
 -- Demands 2 and 3: an answered reading names the certificate's law; by the scale it is as close as demand 3 says; and of two answered readings of one thermometer
 -- over one R0 the larger resistance never gives the lower temperature.

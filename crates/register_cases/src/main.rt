@@ -12,7 +12,6 @@ use evidence::Generator;
 use evidence::Report;
 use quantity::Nanoohm;
 use quantity::Ratio;
-use quantity::Refusal;
 use reading::ReadingAnswer;
 use scale::Ag;
 use scale::CURVE;
@@ -199,15 +198,10 @@ fn drawn_list(g: Generator) -> Lots {
 
 // ---- lines
 
-fn refused_text(line: &mut [u8], from: usize, why: Refusal) -> usize {
-    let at = evidence::text(line, from, b" refused");
-    evidence::natural(line, at, why.number() as u64)
-}
-
 fn change_text(line: &mut [u8], from: usize, change: Change) -> usize {
     match change {
         Change::Made => evidence::text(line, from, b" made"),
-        Change::Refused(why) => refused_text(line, from, why),
+        Change::Refused(why) => evidence::refused(line, from, why.number() as u64),
     }
 }
 
@@ -219,7 +213,7 @@ fn reading_text(line: &mut [u8], from: usize, answer: ReadingAnswer) -> usize {
             let at = law_text(line, from, law);
             evidence::signed(line, at, step.0)
         }
-        ReadingAnswer::Refused(why) => refused_text(line, from, why),
+        ReadingAnswer::Refused(why) => evidence::refused(line, from, why.number() as u64),
     }
 }
 

@@ -1,5 +1,6 @@
 // The register's story: a certificate that was withdrawn stays withdrawn when an import brings it back, and a newer one takes its place. The second
 // program makes what is expected (second/register_story.py).
+use draws::say_law;
 use entry::Change;
 use entry::Entry;
 use entry::Given;
@@ -8,10 +9,10 @@ use entry::Thermometer;
 use evidence::ONE;
 use evidence::say;
 use evidence::say_natural;
+use evidence::say_refused;
 use evidence::say_signed;
 use quantity::Nanoohm;
 use quantity::Ratio;
-use quantity::Refusal;
 use reading::ReadingAnswer;
 use scale::Al;
 use scale::Law;
@@ -21,32 +22,11 @@ use scale::Zn;
 
 // ---- what is said
 
-// The story has two of the subranges.
-fn subrange_name(subrange: Subrange) {
-    match subrange {
-        Subrange::Zn => say(b" zn"),
-        Subrange::Al => say(b" al"),
-        _ => say(b" ?"),
-    }
-}
-
-fn law_name(law: Law) {
-    match law {
-        Law::Curve => say(b" curve"),
-        Law::Scale(subrange) => subrange_name(subrange),
-    }
-}
-
-fn refused(why: Refusal) {
-    say(b" refused");
-    say_natural(why.number() as u64, ONE);
-}
-
 fn change_said(change: Change) {
     say(b":");
     match change {
         Change::Made => say(b" made"),
-        Change::Refused(why) => refused(why),
+        Change::Refused(why) => say_refused(why.number() as u64),
     }
     say(b"\n");
 }
@@ -57,10 +37,10 @@ fn reading_said(answer: ReadingAnswer) {
         ReadingAnswer::Read(reading) => {
             let law = reading.law;
             let step = reading.step;
-            law_name(law);
+            say_law(law);
             say_signed(step.0, ONE);
         }
-        ReadingAnswer::Refused(why) => refused(why),
+        ReadingAnswer::Refused(why) => say_refused(why.number() as u64),
     }
     say(b"\n");
 }
@@ -104,7 +84,7 @@ fn imports(table: [Entry; 4], number: u64, serial: u64, subrange: Subrange) -> [
     say(b" serial");
     say_natural(serial, ONE);
     say(b" mark 0");
-    subrange_name(subrange);
+    say_law(Law::Scale(subrange));
     change_said(change);
     held.table
 }

@@ -8,12 +8,12 @@ use evidence::ONE;
 use evidence::say;
 use evidence::say_difference;
 use evidence::say_natural;
+use evidence::say_refused;
 use evidence::say_signed;
 use quantity::Celsius;
 use quantity::LARGEST_RATIO;
 use quantity::Nanoohm;
 use quantity::RatioAnswer;
-use quantity::Refusal;
 use quantity::StepAnswer;
 
 // R0 = 100 ohm, in nanoohms.
@@ -155,17 +155,12 @@ fn step_of(i: u64) -> i64
     whole::difference(whole::signed(100_000 * i), 200_0000)
 }
 
-fn refused(why: Refusal) {
-    say(b" refused");
-    say_natural(why.number() as u64, ONE);
-}
-
 // What the published resistance reads.
 fn reading(r: Nanoohm) {
     say(b" reads");
     match curve::read_by(r, Nanoohm(R0)) {
         StepAnswer::At(step) => say_signed(step.0, DEGREE),
-        StepAnswer::Refused(why) => refused(why),
+        StepAnswer::Refused(why) => say_refused(why.number() as u64),
     }
 }
 
@@ -193,7 +188,7 @@ fn resistance(i: u64, tally: Tally) -> Tally
     match curve::ratio_at(Celsius(step)) {
         RatioAnswer::Ratio(w) => ratio_beside(ohms, r, w.0, tally),
         RatioAnswer::Refused(why) => {
-            refused(why);
+            say_refused(why.number() as u64);
             tally
         }
     }
