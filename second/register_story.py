@@ -1,5 +1,5 @@
 """The output of `register_story`: a certificate of the register, withdrawn, brought
-back by an import and followed by a newer one.
+back by an import and followed by a newer one, until the thermometer is retired.
 
 Each part is a heading and its acts, each act with the outcome told of it, and
 the serial, the mark and the law that thermometer 7 has in the end.
@@ -10,7 +10,7 @@ from cases import CheckFailed
 from reading_cases import outcome
 from register import Entry
 
-FREE_PLACE = Entry(0, 0, 0, ("curve", 0, 0, 0, 0, 0))
+FREE_PLACE = Entry(0, 0, 0, ("?", 0, 0, 0, 0, 0))
 PLACES = 4
 
 ZN = ("zn", 100, -200, 0, 0, 0)
@@ -21,6 +21,9 @@ AL = ("al", 100000, -200000, 300000, 0, 0)
 R = 40_000_000_000
 R0 = 25_000_000_000
 DEGREES = range(1_530_000, 1_550_000)
+
+# A serial has 64 bits.
+HIGHEST = 2**64 - 1
 
 STORY = (
     (
@@ -59,9 +62,24 @@ STORY = (
         (2, 1, "al"),
     ),
     (
+        "The highest serial is above every mark so far.",
+        (("import", 7, HIGHEST, 0, ZN, "made"), ("read", 7, "zn")),
+        (HIGHEST, 1, "zn"),
+    ),
+    (
+        "The thermometer is retired, and no certificate revives it.",
+        (
+            ("withdraw", 7, HIGHEST, "made"),
+            ("read", 7, "refused 20"),
+            ("import", 7, HIGHEST, 0, ZN, "made"),
+            ("read", 7, "refused 20"),
+        ),
+        (HIGHEST, HIGHEST, "zn"),
+    ),
+    (
         "A thermometer that is not in the register.",
         (("withdraw", 8, 1, "refused 20"), ("read", 8, "refused 20")),
-        (2, 1, "al"),
+        (HIGHEST, HIGHEST, "zn"),
     ),
 )
 

@@ -38,7 +38,7 @@ pub fn import_answer(table: Seen, list: Noted) -> Change
         return Change::Refused(Refusal::SerialClash);
     }
     if list.short {
-        return Change::Refused(Refusal::TableFull);
+        return Change::Refused(Refusal::TooFewPlaces);
     }
     Change::Made
 }

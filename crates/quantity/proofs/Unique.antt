@@ -6,7 +6,7 @@ use lib.IntN.{ℤ}
 use native.Mathlib.Omega.{arith}
 use lib.ListN.{getD}
 use Rattle.quantity.specs.declared.refusal.Refusal.{Refusal}
-use Rattle.quantity.specs.declared.refusal.Refusal.the-variants.{ResistanceOutside, RatioAbove, NameUnknown, CellNotMeasured, PurityCellNotMeasured, Impure, BeyondLimit, BelowRange, AboveRange, IllFormed, BufferShort, NumberUnfit, SerialClash, TableFull, NotLive, TableBad}
+use Rattle.quantity.specs.declared.refusal.Refusal.the-variants.{ResistanceOutside, RatioAbove, NameUnknown, CellNotMeasured, PurityCellNotMeasured, Impure, BeyondLimit, BelowRange, AboveRange, IllFormed, BufferShort, NumberUnfit, SerialClash, TooFewPlaces, NotLive, TableBad}
 use Rattle.quantity.specs.declared.resistance.RatioAnswer.{RatioAnswer}
 use Rattle.quantity.specs.declared.resistance.RatioAnswer.the-variants.{Ratio, Refused}
 use Rattle.quantity.specs.declared.step.StepAnswer.{StepAnswer}
@@ -36,7 +36,7 @@ table =
     ∷ ResistanceOutside
     ∷ NumberUnfit
     ∷ SerialClash
-    ∷ TableFull
+    ∷ TooFewPlaces
     ∷ NotLive
     ∷ ResistanceOutside
     ∷ ResistanceOutside
@@ -61,7 +61,7 @@ back IllFormed = refl
 back BufferShort = refl
 back NumberUnfit = refl
 back SerialClash = refl
-back TableFull = refl
+back TooFewPlaces = refl
 back NotLive = refl
 back TableBad = refl
 

@@ -1,7 +1,7 @@
 -- "Numbers given when there is no answer": the number of each row of the table, and the row in short.
 use Prim.Native.Nat.{ℕ}
 use Rattle.quantity.specs.declared.refusal.Refusal.{Refusal}
-use Rattle.quantity.specs.declared.refusal.Refusal.the-variants.{ResistanceOutside, RatioAbove, NameUnknown, CellNotMeasured, PurityCellNotMeasured, Impure, BeyondLimit, BelowRange, AboveRange, IllFormed, BufferShort, NumberUnfit, SerialClash, TableFull, NotLive, TableBad}
+use Rattle.quantity.specs.declared.refusal.Refusal.the-variants.{ResistanceOutside, RatioAbove, NameUnknown, CellNotMeasured, PurityCellNotMeasured, Impure, BeyondLimit, BelowRange, AboveRange, IllFormed, BufferShort, NumberUnfit, SerialClash, TooFewPlaces, NotLive, TableBad}
 
 abbrev pub numberOf : Refusal → ℕ
 -- R or R0 outside its limits
@@ -32,7 +32,7 @@ numberOf NumberUnfit = 17
 -- one serial with two certificates
 numberOf SerialClash = 18
 -- more new thermometers than places left
-numberOf TableFull = 19
+numberOf TooFewPlaces = 19
 -- no live certificate, or no such thermometer
 numberOf NotLive = 20
 -- a table holding a thermometer twice or a bad certificate

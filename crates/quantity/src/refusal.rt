@@ -16,7 +16,7 @@ pub enum Refusal {
     BufferShort,
     NumberUnfit,
     SerialClash,
-    TableFull,
+    TooFewPlaces,
     NotLive,
     TableBad,
 }
@@ -40,7 +40,7 @@ impl Refusal {
             Refusal::BufferShort => 11,
             Refusal::NumberUnfit => 17,
             Refusal::SerialClash => 18,
-            Refusal::TableFull => 19,
+            Refusal::TooFewPlaces => 19,
             Refusal::NotLive => 20,
             Refusal::TableBad => 23,
         }

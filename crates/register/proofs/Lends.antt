@@ -14,10 +14,9 @@ use Rattle.entry.specs.declared.entry.Serial.{Serial}
 use Rattle.entry.specs.declared.entry.Thermometer.{Thermometer}
 use Rattle.entry.specs.declared.testing.Noted.{Noted}
 use Rattle.entry.specs.declared.answering.Change.{Change}
-use Rattle.entry.specs.Answering.{stated}
 use Rattle.register.specs.Table.{put as putFirst}
-use Rattle.register.specs.Import.{Tested, placedAll, importRefusal, imported}
-use Rattle.register.specs.Withdrawal.{withdrawalRefusal, withdrawn}
+use Rattle.register.specs.Import.{Tested, placedAll, ImportedAs}
+use Rattle.register.specs.Withdrawal.{WithdrawnAs}
 use Rattle.register.specs.Reading.{ReadThrough}
 use Rattle.register.proofs.table.put as put
 use Rattle.register.proofs.table.put.Symbol.{name as #put}
@@ -68,10 +67,10 @@ module _ {M : Type 1} {𝓤 : URA M} {H : Heap 𝓤} {A : Atoms 𝓤} {W : Given
 
   pub lends-withdraw : K → FmC 𝓤 H (W .laws) C → Triple 𝓤 (C #withdraw) (Withdraw 𝓤 H A mem run) → (b o : ℕ) (ys : List Entry) → Room (Entries .row) (length ys) → (n : Thermometer) (mark : Serial) → Good Thermometers n → Good Serials mark
       → ((α : ℕ) (δ : GName) → Opds K W (raw (Withdraw 𝓤 H A mem run .pre (((α ∷ [], tt), (fullShare, tt), tt, (at-list b o δ ys, (n, (mark, tt))), (whole-slice b o ys, (Thermometers .val n ∷ [], (Serials .val mark ∷ [], tt)))), tt)) ∷ ‵ (MutOut (Entries .row) ys b o α δ) ∷ Γ) E xs (only (whole-slice b o ys) ∷ Thermometers .val n ∷ Serials .val mark ∷ []))
-      → ((r : Change) (zs : List Entry) → length zs ≡ length ys → (stated r ≡ withdrawalRefusal ys (n .0)) × (zs ≡ withdrawn ys (n .0) mark) → Good Changes r → Seq K W (‵ (row (Entries .row) fullShare zs b o) ∷ Γ) (lands C Λ E d (Changes .val r) rest q))
+      → ((r : Change) (zs : List Entry) → length zs ≡ length ys → WithdrawnAs ys (n .0) mark r zs → Good Changes r → Seq K W (‵ (row (Entries .row) fullShare zs b o) ∷ Γ) (lands C Λ E d (Changes .val r) rest q))
       → Seq K W (‵ (row (Entries .row) fullShare ys b o) ∷ Γ) (runs C Λ E (seq (call #withdraw xs d) rest) q)
   lends-withdraw t fm known b o ys room n mark g0 g1 os k =
-      calls-mut t fm (Withdraw 𝓤 H A mem run) known Changes b o ys room (λ α δ. (((α ∷ [], tt), (fullShare, tt), tt, (at-list b o δ ys, (n, (mark, tt))), (whole-slice b o ys, (Thermometers .val n ∷ [], (Serials .val mark ∷ [], tt)))), tt)) (λ α δ. ensured 𝓤 H A withdraw.ended (withdraw.clauses 𝓤 H A mem run) (α ∷ [], tt) (at-list b o δ ys, (n, (mark, tt))) tt) (λ α δ. lasts withdraw.ended (α ∷ [], tt) (at-list b o δ ys, (n, (mark, tt)))) (λ (r : Change) (zs : List Entry). (stated r ≡ withdrawalRefusal ys (n .0)) × (zs ≡ withdrawn ys (n .0) mark)) had (λ α δ r. id⊢ 𝓤 _) (λ α δ ws. qed W (‵ (lasts withdraw.ended (α ∷ [], tt) (at-list b o δ ys, (n, (mark, tt))) ws) ∷ []) ∵ fsplit ! $ fsplit ! $ move ! (2 ∷ []) $ drop ! $ frame ! $ done !) (λ α δ u. id⊢ 𝓤 _) os k
+      calls-mut t fm (Withdraw 𝓤 H A mem run) known Changes b o ys room (λ α δ. (((α ∷ [], tt), (fullShare, tt), tt, (at-list b o δ ys, (n, (mark, tt))), (whole-slice b o ys, (Thermometers .val n ∷ [], (Serials .val mark ∷ [], tt)))), tt)) (λ α δ. ensured 𝓤 H A withdraw.ended (withdraw.clauses 𝓤 H A mem run) (α ∷ [], tt) (at-list b o δ ys, (n, (mark, tt))) tt) (λ α δ. lasts withdraw.ended (α ∷ [], tt) (at-list b o δ ys, (n, (mark, tt)))) (λ (r : Change) (zs : List Entry). WithdrawnAs ys (n .0) mark r zs) had (λ α δ r. id⊢ 𝓤 _) (λ α δ ws. qed W (‵ (lasts withdraw.ended (α ∷ [], tt) (at-list b o δ ys, (n, (mark, tt))) ws) ∷ []) ∵ fsplit ! $ fsplit ! $ move ! (2 ∷ []) $ drop ! $ frame ! $ done !) (λ α δ u. id⊢ 𝓤 _) os k
     where
       had : (α : ℕ) (δ : GName) → ent 𝓤 (sep 𝓤 (A .lft (α ∷ []) fullShare) (sem 𝓤 H A (MutSlice (named 0) (α ∷ []) (Entries .row) .own (at-list b o δ ys) (whole-slice b o ys)))) (Withdraw 𝓤 H A mem run .pre (((α ∷ [], tt), (fullShare, tt), tt, (at-list b o δ ys, (n, (mark, tt))), (whole-slice b o ys, (Thermometers .val n ∷ [], (Serials .val mark ∷ [], tt)))), tt))
       had α δ = qed W (‵ (flft (α ∷ []) fullShare) ∷ ‵ (MutSlice (named 0) (α ∷ []) (Entries .row) .own (at-list b o δ ys) (whole-slice b o ys)) ∷ []) ∵ nothing ! $ move ! (1 ∷ 0 ∷ []) $ join ! $ nothing ! $ owned ! (Serials .row) (Is (Serials .row)) (Serials .makes 𝓤 H A W) mark _ g1 $ fjoin ! $ owned ! (Thermometers .row) (Is (Thermometers .row)) (Thermometers .makes 𝓤 H A W) n _ g0 $ fjoin ! $ move ! (2 ∷ 0 ∷ []) $ fjoin ! $ move ! (1 ∷ 0 ∷ []) $ join ! $ frame ! $ done !
@@ -91,10 +90,10 @@ module _ {M : Type 1} {𝓤 : URA M} {H : Heap 𝓤} {A : Atoms 𝓤} {W : Given
 
   pub lends-import : K → FmC 𝓤 H (W .laws) C → Triple 𝓤 (C #import) (Import 𝓤 H A mem run) → (b o : ℕ) (ys : List Entry) → Room (Entries .row) (length ys) → (ℓ : Lifetime) (κ : Lft) (p : Share) (b′ o′ : ℕ) (γ : GName) (vs : List Entry)
       → ((α : ℕ) (δ : GName) → Opds K W (raw (Import 𝓤 H A mem run .pre (((α ∷ [], (κ, tt)), (fullShare, (p, tt)), tt, (at-list b o δ ys, (at-list b′ o′ γ vs, tt)), (whole-slice b o ys, (whole-slice b′ o′ vs, tt))), tt)) ∷ Shared 𝓤 ℓ κ b′ o′ γ vs ∷ ‵ (MutOut (Entries .row) ys b o α δ) ∷ Γ) E xs (only (whole-slice b o ys) ∷ only (whole-slice b′ o′ vs) ∷ []))
-      → ((r : Change) (zs : List Entry) → length zs ≡ length ys → (stated r ≡ importRefusal ys vs) × (zs ≡ imported ys vs) → Good Changes r → Seq K W (‵ (row (Entries .row) fullShare zs b o) ∷ ‵ (flft κ p) ∷ Shared 𝓤 ℓ κ b′ o′ γ vs ∷ Γ) (lands C Λ E d (Changes .val r) rest q))
+      → ((r : Change) (zs : List Entry) → length zs ≡ length ys → ImportedAs ys vs r zs → Good Changes r → Seq K W (‵ (row (Entries .row) fullShare zs b o) ∷ ‵ (flft κ p) ∷ Shared 𝓤 ℓ κ b′ o′ γ vs ∷ Γ) (lands C Λ E d (Changes .val r) rest q))
       → Seq K W (‵ (row (Entries .row) fullShare ys b o) ∷ ‵ (flft κ p) ∷ Shared 𝓤 ℓ κ b′ o′ γ vs ∷ Γ) (runs C Λ E (seq (call #import xs d) rest) q)
   lends-import t fm known b o ys room ℓ κ p b′ o′ γ vs os k =
-      calls-mut-with t fm (Import 𝓤 H A mem run) known Changes b o ys room ℓ κ p b′ o′ γ vs (λ α δ. (((α ∷ [], (κ, tt)), (fullShare, (p, tt)), tt, (at-list b o δ ys, (at-list b′ o′ γ vs, tt)), (whole-slice b o ys, (whole-slice b′ o′ vs, tt))), tt)) (λ α δ. ensured 𝓤 H A import′.ended (import′.clauses 𝓤 H A mem run) (α ∷ [], (κ, tt)) (at-list b o δ ys, (at-list b′ o′ γ vs, tt)) tt) (λ α δ. lasts import′.ended (α ∷ [], (κ, tt)) (at-list b o δ ys, (at-list b′ o′ γ vs, tt))) (λ (r : Change) (zs : List Entry). (stated r ≡ importRefusal ys vs) × (zs ≡ imported ys vs)) had (λ α δ r. id⊢ 𝓤 _) (λ α δ ws. qed W (‵ (lasts import′.ended (α ∷ [], (κ, tt)) (at-list b o δ ys, (at-list b′ o′ γ vs, tt)) ws) ∷ []) ∵ fsplit ! $ fsplit ! $ move ! (2 ∷ []) $ drop ! $ frame ! $ done !) (λ α δ u. id⊢ 𝓤 _) os k
+      calls-mut-with t fm (Import 𝓤 H A mem run) known Changes b o ys room ℓ κ p b′ o′ γ vs (λ α δ. (((α ∷ [], (κ, tt)), (fullShare, (p, tt)), tt, (at-list b o δ ys, (at-list b′ o′ γ vs, tt)), (whole-slice b o ys, (whole-slice b′ o′ vs, tt))), tt)) (λ α δ. ensured 𝓤 H A import′.ended (import′.clauses 𝓤 H A mem run) (α ∷ [], (κ, tt)) (at-list b o δ ys, (at-list b′ o′ γ vs, tt)) tt) (λ α δ. lasts import′.ended (α ∷ [], (κ, tt)) (at-list b o δ ys, (at-list b′ o′ γ vs, tt))) (λ (r : Change) (zs : List Entry). ImportedAs ys vs r zs) had (λ α δ r. id⊢ 𝓤 _) (λ α δ ws. qed W (‵ (lasts import′.ended (α ∷ [], (κ, tt)) (at-list b o δ ys, (at-list b′ o′ γ vs, tt)) ws) ∷ []) ∵ fsplit ! $ fsplit ! $ move ! (2 ∷ []) $ drop ! $ frame ! $ done !) (λ α δ u. id⊢ 𝓤 _) os k
     where
       had : (α : ℕ) (δ : GName) → ent 𝓤 (sep 𝓤 (A .lft (α ∷ []) fullShare) (sep 𝓤 (sem 𝓤 H A (MutSlice (named 0) (α ∷ []) (Entries .row) .own (at-list b o δ ys) (whole-slice b o ys))) (sep 𝓤 (A .lft κ p) (mean 𝓤 H A (Shared 𝓤 ℓ κ b′ o′ γ vs))))) (Import 𝓤 H A mem run .pre (((α ∷ [], (κ, tt)), (fullShare, (p, tt)), tt, (at-list b o δ ys, (at-list b′ o′ γ vs, tt)), (whole-slice b o ys, (whole-slice b′ o′ vs, tt))), tt))
       had α δ = qed W (‵ (flft (α ∷ []) fullShare) ∷ ‵ (MutSlice (named 0) (α ∷ []) (Entries .row) .own (at-list b o δ ys) (whole-slice b o ys)) ∷ ‵ (flft κ p) ∷ Shared 𝓤 ℓ κ b′ o′ γ vs ∷ []) ∵ nothing ! $ move ! (3 ∷ 0 ∷ []) $ join ! $ move ! (1 ∷ 0 ∷ []) $ join ! $ nothing ! $ move ! (3 ∷ 0 ∷ []) $ fjoin ! $ move ! (2 ∷ 0 ∷ []) $ fjoin ! $ move ! (1 ∷ 0 ∷ []) $ join ! $ frame ! $ done !

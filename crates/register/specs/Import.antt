@@ -8,8 +8,9 @@ use Rattle.whole.specs.Any.{any}
 use Rattle.whole.specs.Choice.{if_then_else_}
 use Rattle.entry.specs.declared.entry.Entry.{Entry}
 use Rattle.entry.specs.declared.testing.Noted.{Noted}
+use Rattle.entry.specs.declared.answering.Change.{Change}
 use Rattle.entry.specs.Entry.{isUnknown, isUnsound, isFree, clash, joined}
-use Rattle.entry.specs.Answering.{importNumber}
+use Rattle.entry.specs.Answering.{stated, importNumber}
 use Rattle.register.specs.Table.{entryOf, put, count, twice, badTable, places}
 
 -- 3: the law of an imported certificate is unknown; 7: an imported certificate is not sound.
@@ -62,3 +63,7 @@ placedAll table (e ∷ es) = placedAll (placed table e) es
 -- The table after an import: as it was where the import is refused.
 unfoldable pub imported : List Entry → List Entry → List Entry
 imported table list = if eqb (importRefusal table list) 0 then placedAll table list else table
+
+-- What is promised of an import: its answer, and the table that it leaves.
+abbrev pub ImportedAs : List Entry → List Entry → Change → List Entry → Type 0
+ImportedAs table list answer left = (stated answer ≡ importRefusal table list) × (left ≡ imported table list)

@@ -1,5 +1,5 @@
--- What is promised of the register besides its answers. `importRefusal` and `withdrawalRefusal` are what the calls `import` and `withdraw` ensure of their
--- answers, `imported` and `withdrawn` of the table they leave, and `ReadThrough` is what `read` ensures, so these are statements about every use of those calls.
+-- What is promised of the register besides its answers. The call `import` ensures `ImportedAs`, `withdraw` ensures `WithdrawnAs` and `read` ensures
+-- `ReadThrough`, so what is said here of `importRefusal`, `imported`, `withdrawalRefusal`, `withdrawn` and `ReadThrough` is said of every use of those calls.
 use mathlib.Core.Path.{_≡_}
 use mathlib.Core.Bool.{true, false}
 use mathlib.Core.List.{List, [], _∷_}
@@ -20,10 +20,10 @@ use Rattle.entry.specs.declared.entry.Entry.{Entry}
 use Rattle.entry.specs.declared.entry.Serial.{Serial}
 use Rattle.entry.specs.declared.answering.Change.{Change}
 use Rattle.entry.specs.Entry.{fault, isFree, isLive, free, joined, raised}
-use Rattle.entry.specs.Answering.{stated, ReadGiven}
+use Rattle.entry.specs.Answering.{ReadGiven}
 use Rattle.register.specs.Table.{entryOf, badTable}
-use Rattle.register.specs.Import.{short, importRefusal, imported}
-use Rattle.register.specs.Withdrawal.{withdrawalRefusal, withdrawn}
+use Rattle.register.specs.Import.{short, importRefusal, imported, ImportedAs}
+use Rattle.register.specs.Withdrawal.{withdrawalRefusal, withdrawn, WithdrawnAs}
 use Rattle.register.specs.Reading.{ReadThrough}
 
 -- A number names a thermometer where it is not 0.
@@ -117,7 +117,7 @@ ThroughOrdered =
     → r ≤ r′ → o .step ≤ℤ o′ .step
 
 -- ---- what is withdrawn stays withdrawn
--- What people do to the register: imports, withdrawals.
+-- What changes a register: imports, withdrawals.
 pub data Act : Type 0 where
   Import : List Entry → Act
   Withdraw : ℕ → Serial → Act
@@ -131,9 +131,12 @@ abbrev pub afterAll : List Entry → List Act → List Entry
 afterAll table [] = table
 afterAll table (act ∷ acts) = afterAll (after table act) acts
 
--- The mark of a thermometer; 0 where the table has nothing of it.
+-- The mark and the serial of a thermometer; 0 where the table has nothing of it.
 abbrev pub markOf : List Entry → ℕ → ℕ
 markOf table n = entryOf table n .mark .0
+
+abbrev pub serialOf : List Entry → ℕ → ℕ
+serialOf table n = entryOf table n .serial .0
 
 -- A mark never falls, whatever is imported and withdrawn.
 abbrev pub MarkNeverFalls : Type 0
@@ -144,7 +147,7 @@ abbrev pub MarkHolds : Type 0
 MarkHolds =
     (table : List Entry) (n : ℕ) → Names n → (since : List Act) (r r0 : ℕ) (o : Outcome)
     → ReadThrough (afterAll table since) n r r0 o → o .code ≡ 0
-    → markOf table n < entryOf (afterAll table since) n .serial .0
+    → markOf table n < serialOf (afterAll table since) n
 
 -- To the person on the launch: you withdrew this thermometer's certificates up to a serial. Whatever came in afterwards, from whichever laboratory, if the
 -- register answers a reading of that thermometer, it answers by a certificate with a higher serial than that one.
@@ -175,28 +178,30 @@ abbrev pub CameTogether : Type 0
 CameTogether =
     (table : List Entry) (acts : List Act) (n : ℕ) → isFree (entryOf (afterAll table acts) n) ≡ false → CameIn table (entryOf (afterAll table acts) n) table acts
 
--- A newer certificate takes the old one's place. Good, above the serial that is held and above both marks, and with a place for it, it is accepted, and from then
--- on it is what reads.
+-- A newer certificate takes the old one's place. Good, above the serial that is held and above both marks, and with a place for it, it is accepted, and a reading
+-- then is by it.
 abbrev pub NewerServes : Type 0
 NewerServes =
     (table : List Entry) (e : Entry) → badTable table ≡ false → Names (e .number .0) → fault (e .certificate) ≡ 0 → short table (e ∷ []) ≡ false
-    → entryOf table (e .number .0) .serial .0 < e .serial .0 → markOf table (e .number .0) < e .serial .0 → e .mark .0 < e .serial .0
+    → serialOf table (e .number .0) < e .serial .0 → markOf table (e .number .0) < e .serial .0 → e .mark .0 < e .serial .0
     → (importRefusal table (e ∷ []) ≡ 0)
     × ((r r0 : ℕ) (o : Outcome) → ReadThrough (imported table (e ∷ [])) (e .number .0) r r0 o → ReadGiven (e .certificate) r r0 o)
+
+-- And the old one does not come back: a serial never falls, whatever is imported and withdrawn.
+abbrev pub SerialNeverFalls : Type 0
+SerialNeverFalls = (table : List Entry) (acts : List Act) (n : ℕ) → Names n → serialOf table n ≤ serialOf (afterAll table acts) n
 
 -- ---- one outcome
 -- Each call's promise allows one answer and one table only.
 abbrev pub OneImport : Type 0
 OneImport =
     (table list : List Entry) (x y : Change) (left other : List Entry)
-    → (stated x ≡ importRefusal table list) × (left ≡ imported table list) → (stated y ≡ importRefusal table list) × (other ≡ imported table list)
-    → (x ≡ y) × (left ≡ other)
+    → ImportedAs table list x left → ImportedAs table list y other → (x ≡ y) × (left ≡ other)
 
 abbrev pub OneWithdrawal : Type 0
 OneWithdrawal =
     (table : List Entry) (n : ℕ) (serial : Serial) (x y : Change) (left other : List Entry)
-    → (stated x ≡ withdrawalRefusal table n) × (left ≡ withdrawn table n serial) → (stated y ≡ withdrawalRefusal table n) × (other ≡ withdrawn table n serial)
-    → (x ≡ y) × (left ≡ other)
+    → WithdrawnAs table n serial x left → WithdrawnAs table n serial y other → (x ≡ y) × (left ≡ other)
 
 abbrev pub OneReading : Type 0
 OneReading = (table : List Entry) (n r r0 : ℕ) (x y : ReadingAnswer) → ReadThrough table n r r0 (readAs x) → ReadThrough table n r r0 (readAs y) → x ≡ y

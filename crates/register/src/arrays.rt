@@ -2,10 +2,9 @@
 ghost use mathlib.Core.Path.{_≡_};
 ghost use Prim.Native.Nat.{min};
 ghost use lib.ListN.{take};
-ghost use Rattle.entry.specs.Answering.{stated as numberIn};
 ghost use Rattle.reading.specs.Reading.{stated};
-ghost use Rattle.register.specs.Import.{importRefusal, imported};
-ghost use Rattle.register.specs.Withdrawal.{withdrawalRefusal, withdrawn};
+ghost use Rattle.register.specs.Import.{ImportedAs};
+ghost use Rattle.register.specs.Withdrawal.{WithdrawnAs};
 ghost use Rattle.register.specs.Reading.{ReadThrough};
 use crate::imports::import;
 use crate::readings::read;
@@ -41,7 +40,7 @@ pub fn at_most_four(count: usize) -> usize
 
 // The first `count` entries of the list are imported, all of them where there are not so many.
 pub fn import_array(table: [Entry; 4], list: [Entry; 4], count: usize) -> After
-    ensures { λ a. ⌜ (numberIn (a .change) ≡ importRefusal table (take count list)) × (a .table ≡ imported table (take count list)) ⌝ }
+    ensures { λ a. ⌜ ImportedAs table (take count list) (a .change) (a .table) ⌝ }
 {
     let mut t = table;
     let n = at_most_four(count);
@@ -50,7 +49,7 @@ pub fn import_array(table: [Entry; 4], list: [Entry; 4], count: usize) -> After
 }
 
 pub fn withdraw_array(table: [Entry; 4], number: Thermometer, serial: Serial) -> After
-    ensures { λ a. ⌜ (numberIn (a .change) ≡ withdrawalRefusal table (number .0)) × (a .table ≡ withdrawn table (number .0) serial) ⌝ }
+    ensures { λ a. ⌜ WithdrawnAs table (number .0) serial (a .change) (a .table) ⌝ }
 {
     let mut t = table;
     let change = withdraw(&mut t, number, serial);

@@ -1,7 +1,6 @@
 // An import: a list of entries comes into the table, or all of it is refused.
 ghost use mathlib.Core.Path.{_≡_};
-ghost use Rattle.entry.specs.Answering.{stated as numberIn};
-ghost use Rattle.register.specs.Import.{Tested, placedAll, importRefusal, imported};
+ghost use Rattle.register.specs.Import.{Tested, placedAll, ImportedAs};
 use crate::table::examine;
 use crate::table::find;
 use crate::table::lookup;
@@ -46,7 +45,7 @@ pub fn place_all(table: &mut [Entry], list: &[Entry])
 
 // Of each thermometer the higher serial with its certificate and the higher mark are kept. A refused import changes nothing.
 pub fn import(table: &mut [Entry], list: &[Entry]) -> Change
-    ensures { λ r. ⌜ (numberIn r ≡ importRefusal (now (table .entry)) (now (list .entry))) × (now (table .exit) ≡ imported (now (table .entry)) (now (list .entry))) ⌝ }
+    ensures { λ r. ⌜ ImportedAs (now (table .entry)) (now (list .entry)) r (now (table .exit)) ⌝ }
 {
     let s = examine(table);
     let l = check(table, list, s.places);

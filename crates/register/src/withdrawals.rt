@@ -1,7 +1,5 @@
 // A withdrawal: the certificates of a thermometer are withdrawn up to a serial, for good.
-ghost use mathlib.Core.Path.{_≡_};
-ghost use Rattle.entry.specs.Answering.{stated as numberIn};
-ghost use Rattle.register.specs.Withdrawal.{withdrawalRefusal, withdrawn};
+ghost use Rattle.register.specs.Withdrawal.{WithdrawnAs};
 use crate::table::examine;
 use crate::table::lookup;
 use crate::table::put;
@@ -15,7 +13,7 @@ use entry::withdrawal_answer;
 
 // The thermometer's mark rises to the serial and never falls. A refused withdrawal changes nothing.
 pub fn withdraw(table: &mut [Entry], number: Thermometer, serial: Serial) -> Change
-    ensures { λ r. ⌜ (numberIn r ≡ withdrawalRefusal (now (table .entry)) (number .0)) × (now (table .exit) ≡ withdrawn (now (table .entry)) (number .0) serial) ⌝ }
+    ensures { λ r. ⌜ WithdrawnAs (now (table .entry)) (number .0) serial r (now (table .exit)) ⌝ }
 {
     let s = examine(table);
     let held = lookup(table, number.0);

@@ -112,6 +112,9 @@ fn reads(table: [Entry; 4], number: u64) {
     reading_said(answer);
 }
 
+// The highest serial that there is.
+const HIGHEST: u64 = 18_446_744_073_709_551_615;
+
 fn main() {
     let empty = [entry::free(); 4];
     say(b"A certificate comes in.\n");
@@ -135,7 +138,15 @@ fn main() {
     say(b"One serial with two certificates changes nothing.\n");
     let t7 = imports(t6, 7, 2, Subrange::Zn);
     reads(t7, 7);
+    say(b"The highest serial is above every mark so far.\n");
+    let t8 = imports(t7, 7, HIGHEST, Subrange::Zn);
+    reads(t8, 7);
+    say(b"The thermometer is retired, and no certificate revives it.\n");
+    let t9 = withdraws(t8, 7, HIGHEST);
+    reads(t9, 7);
+    let t10 = imports(t9, 7, HIGHEST, Subrange::Zn);
+    reads(t10, 7);
     say(b"A thermometer that is not in the register.\n");
-    let t8 = withdraws(t7, 8, 1);
-    reads(t8, 8);
+    let t11 = withdraws(t10, 8, 1);
+    reads(t11, 8);
 }

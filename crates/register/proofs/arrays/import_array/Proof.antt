@@ -9,7 +9,7 @@ use lib.ListN.{length, take}
 use lib.Seq.{length-take-le}
 use Rattle.entry.specs.declared.entry.Entry.{Entry}
 use Rattle.entry.specs.Answering.{stated as numberIn}
-use Rattle.register.specs.Import.{importRefusal, imported}
+use Rattle.register.specs.Import.{importRefusal, imported, ImportedAs}
 use Rattle.register.proofs.Kit.{ !, Atoms, FmC, Fun, Given, Heap, Is, Meets, Memory, Room, Routine, SProp, Stays, Tables, Triple, URA, Val, WpFn, _$_, _∵_, _⊛_, addr, agg, alloc0, alloc1, and-then, assigns, by, cited, done, drop, emp, ends-at, ent, enter, entered, erased, facts, fat, fjoin, fmOf, forget, frame, free0, free1, from, fst∗, fullShare, givenOf, goes-dropped, goes-none, imm, init, keep, land, lit, load, look, meets, move, mut, named, no-more, nothing, of-opd, onEntry, owned, params1, pass0, pass1, pointee, qed, raw, returns, rewrite, row, says, shows, sliceTy, sliceVal, split, stay-dropped, stay-none, stop, suffices, tables, tablesOf, tripleOf, tyRef, use1, use2, via, walkOf, walked, yes, ‵}
 use Rattle.register.proofs.Lent.{Local, array-in, array-out, lend-shr, back-shr, rest-of, cut-row, join-row}
 use Rattle.register.proofs.Sorts.{Changes, Entries, Good, Word, env}
@@ -40,7 +40,7 @@ module _ {M : Type 1} (𝓤 : URA M) (H : Heap 𝓤) (A : Atoms 𝓤) (W : Given
   abbrev Post : Val → SProp 𝓤
   Post = walkOf 𝓤 H A self.ended stayed (self.clauses 𝓤 H A mem run) .post bound
 
-  exits : (r : After) → Good Afters r → (numberIn (r .change) ≡ importRefusal ys (take count xs)) × (r .table ≡ imported ys (take count xs)) → ent 𝓤 (emp 𝓤) (Post (Afters .val r))
+  exits : (r : After) → Good Afters r → ImportedAs ys (take count xs) (r .change) (r .table) → ent 𝓤 (emp 𝓤) (Post (Afters .val r))
   exits r g f =
       qed W [] ∵
       suffices ! _ (ends-at 𝓤 H A self.ended stayed (self.clauses 𝓤 H A mem run) W bound (Afters .val r) r (tt, (tt, (tt, tt))) (tt, (tt, (tt, tt)))) $ says ! f $

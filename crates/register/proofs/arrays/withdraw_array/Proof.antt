@@ -1,5 +1,5 @@
 -- `withdraw_array` meets its contract: a walk by hand. The array is lent as a `&mut`.
-use mathlib.Core.Path.{_≡_, refl, sym, _∙_, ap}
+use mathlib.Core.Path.{refl, sym, _∙_, ap}
 use mathlib.Core.List.{List, [], _∷_}
 use Prim.Native.Nat.{ℕ}
 use lib.Dec.{lit<}
@@ -7,7 +7,7 @@ use Rattle.entry.specs.declared.entry.Entry.{Entry}
 use Rattle.entry.specs.declared.entry.Serial.{Serial}
 use Rattle.entry.specs.declared.entry.Thermometer.{Thermometer}
 use Rattle.entry.specs.Answering.{stated as numberIn}
-use Rattle.register.specs.Withdrawal.{withdrawalRefusal, withdrawn}
+use Rattle.register.specs.Withdrawal.{WithdrawnAs}
 use Rattle.register.proofs.Kit.{ !, Atoms, FmC, Fun, Given, Heap, Is, Meets, Memory, Routine, SProp, Stays, Tables, Triple, URA, Val, WpFn, _$_, _∵_, _⊛_, addr, agg, alloc0, alloc1, and-then, assigns, by, cited, done, emp, ends-at, ent, enter, entered, erased, facts, fat, fjoin, fmOf, forget, frame, free0, free1, from, fst∗, fullShare, givenOf, goes-dropped, goes-none, init, keep, land, lit, load, look, meets, move, mut, no-more, nothing, of-opd, onEntry, owned, params1, pass0, pass1, pointee, qed, raw, returns, rewrite, row, says, shows, sliceTy, sliceVal, split, stay-dropped, stay-none, stop, suffices, tables, tablesOf, tripleOf, tyRef, use1, via, walkOf, walked, yes, ‵}
 use Rattle.register.proofs.Lent.{Local, array-in, array-out}
 use Rattle.register.proofs.Sorts.{Changes, Entries, Good, Serials, Thermometers, env}
@@ -35,7 +35,7 @@ module _ {M : Type 1} (𝓤 : URA M) (H : Heap 𝓤) (A : Atoms 𝓤) (W : Given
   abbrev Post : Val → SProp 𝓤
   Post = walkOf 𝓤 H A self.ended stayed (self.clauses 𝓤 H A mem run) .post bound
 
-  exits : (r : After) → Good Afters r → (numberIn (r .change) ≡ withdrawalRefusal ys (n .0)) × (r .table ≡ withdrawn ys (n .0) mark) → ent 𝓤 (emp 𝓤) (Post (Afters .val r))
+  exits : (r : After) → Good Afters r → WithdrawnAs ys (n .0) mark (r .change) (r .table) → ent 𝓤 (emp 𝓤) (Post (Afters .val r))
   exits r g f =
       qed W [] ∵
       suffices ! _ (ends-at 𝓤 H A self.ended stayed (self.clauses 𝓤 H A mem run) W bound (Afters .val r) r (tt, (tt, (tt, tt))) (tt, (tt, (tt, tt)))) $ says ! f $

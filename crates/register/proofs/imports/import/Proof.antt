@@ -7,7 +7,7 @@ use Rattle.entry.specs.declared.entry.Entry.{Entry}
 use Rattle.entry.specs.declared.answering.Change.{Change}
 use Rattle.entry.specs.Answering.{stated as numberIn}
 use Rattle.register.specs.Table.{places}
-use Rattle.register.specs.Import.{importRefusal, imported}
+use Rattle.register.specs.Import.{ImportedAs}
 use Rattle.register.proofs.Kit.{ !, Atoms, FmC, Fun, GName, Given, Heap, Held, Is, Lft, Meets, Memory, MutSlice, Room, Routine, SProp, Share, ShrSlice, Stays, Tables, Triple, URA, Val, WpFn, _$_, _∵_, _⊛_, addr, agg, alloc0, alloc1, and-then, assigns, at-slice, atRet, branches, by, cited, closes-slice, codedHoleys, done, drop, emp, ends-at, ent, enter, entered, exec, fbor, first, fjoin, fld, flft, fmOf, fobs, forget, frame, free0, free1, from, fsplit, fst∗, ftrue, givenOf, goes-none-slice, goes-slice, heres, hop, init, join, land, land-last, load, look, look-in, meets, move, mut-slice-tells, named, no-more, nothing, now, of-opd, onEntry, only, opens-slice, owned, owns, params1, pass0, pass1, plain, pureI, qed, returns, row, says, shr-slice-tells, skips, slice-vals, sliceVal, split, stay-none-slice, stay-slice, stop, sub, suffices, tables, tablesOf, tripleOf, via, walkOf, walked, whole, yes, ‵, ⋆}
 use Rattle.register.proofs.Calls.{Shared}
 use Rattle.register.proofs.Lent.{at-list, whole-slice}
@@ -47,7 +47,7 @@ module _ {M : Type 1} (𝓤 : URA M) (H : Heap 𝓤) (A : Atoms 𝓤) (W : Given
   abbrev Post : Val → SProp 𝓤
   Post = walkOf 𝓤 H A self.ended stayed (self.clauses 𝓤 H A mem run) .post bound
 
-  exits : (r : Change) (zs : List Entry) → length zs ≡ length ys → Good Changes r → (numberIn r ≡ importRefusal ys xs) × (zs ≡ imported ys xs) → ent 𝓤 (⋆ 𝓤 H A (‵ (fobs γ (codedHoleys (Entries .row) .code (heres (Entries .row) zs))) ∷ ‵ (fbor κ (Held (Entries .row) (length zs) b o γ)) ∷ ‵ (flft κ q) ∷ ‵ (flft κ′ q₂) ∷ Shared 𝓤 (named 1) κ′ b′ o′ γ′ xs ∷ [])) (Post (Changes .val r))
+  exits : (r : Change) (zs : List Entry) → length zs ≡ length ys → Good Changes r → ImportedAs ys xs r zs → ent 𝓤 (⋆ 𝓤 H A (‵ (fobs γ (codedHoleys (Entries .row) .code (heres (Entries .row) zs))) ∷ ‵ (fbor κ (Held (Entries .row) (length zs) b o γ)) ∷ ‵ (flft κ q) ∷ ‵ (flft κ′ q₂) ∷ Shared 𝓤 (named 1) κ′ b′ o′ γ′ xs ∷ [])) (Post (Changes .val r))
   exits r zs l g f =
       qed W (‵ (fobs γ (codedHoleys (Entries .row) .code (heres (Entries .row) zs))) ∷ ‵ (fbor κ (Held (Entries .row) (length zs) b o γ)) ∷ ‵ (flft κ q) ∷ ‵ (flft κ′ q₂) ∷ Shared 𝓤 (named 1) κ′ b′ o′ γ′ xs ∷ []) ∵
       suffices ! _ (ends-at 𝓤 H A self.ended stayed (self.clauses 𝓤 H A mem run) W bound (Changes .val r) r (zs, (tt, tt)) (l, (tt, tt))) $ says ! f $

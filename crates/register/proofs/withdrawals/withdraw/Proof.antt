@@ -8,7 +8,7 @@ use Rattle.entry.specs.declared.entry.Serial.{Serial}
 use Rattle.entry.specs.declared.entry.Thermometer.{Thermometer}
 use Rattle.entry.specs.declared.answering.Change.{Change}
 use Rattle.entry.specs.Answering.{stated as numberIn}
-use Rattle.register.specs.Withdrawal.{withdrawalRefusal, withdrawn}
+use Rattle.register.specs.Withdrawal.{WithdrawnAs}
 use Rattle.register.proofs.Kit.{ !, Atoms, FmC, Fun, GName, Given, Heap, Held, Is, Lft, Meets, Memory, MutSlice, Room, Routine, SProp, Share, Stays, Tables, Triple, URA, Val, WpFn, _$_, _∵_, _⊛_, addr, agg, alloc0, alloc1, and-then, assigns, at-slice, atRet, branches, by, cited, closes-slice, codedHoleys, done, drop, emp, ends-at, ent, enter, entered, exec, fbor, first, fjoin, fld, flft, fmOf, fobs, forget, frame, free0, free1, from, fsplit, fst∗, ftrue, givenOf, goes-none, goes-slice, heres, hop, init, join, land, land-last, load, look, look-in, meets, move, mut-slice-tells, named, no-more, nothing, now, of-opd, onEntry, only, opens-slice, owned, owns, params1, pass0, pass1, plain, pureI, qed, returns, row, says, skips, slice-vals, sliceVal, split, stay-none, stay-slice, stop, sub, suffices, tables, tablesOf, tripleOf, via, walkOf, walked, whole, yes, ‵, ⋆}
 use Rattle.register.proofs.Lent.{at-list, whole-slice}
 use Rattle.register.proofs.Sorts.{word-of, Changes, Entries, Good, Nothing, Seens, Serials, Thermometers, Truth, env}
@@ -50,7 +50,7 @@ module _ {M : Type 1} (𝓤 : URA M) (H : Heap 𝓤) (A : Atoms 𝓤) (W : Given
   abbrev Post : Val → SProp 𝓤
   Post = walkOf 𝓤 H A self.ended stayed (self.clauses 𝓤 H A mem run) .post bound
 
-  exits : (r : Change) (zs : List Entry) → length zs ≡ length ys → Good Changes r → (numberIn r ≡ withdrawalRefusal ys (n .0)) × (zs ≡ withdrawn ys (n .0) mark) → ent 𝓤 (⋆ 𝓤 H A (‵ (fobs γ (codedHoleys (Entries .row) .code (heres (Entries .row) zs))) ∷ ‵ (fbor κ (Held (Entries .row) (length zs) b o γ)) ∷ ‵ (flft κ q) ∷ [])) (Post (Changes .val r))
+  exits : (r : Change) (zs : List Entry) → length zs ≡ length ys → Good Changes r → WithdrawnAs ys (n .0) mark r zs → ent 𝓤 (⋆ 𝓤 H A (‵ (fobs γ (codedHoleys (Entries .row) .code (heres (Entries .row) zs))) ∷ ‵ (fbor κ (Held (Entries .row) (length zs) b o γ)) ∷ ‵ (flft κ q) ∷ [])) (Post (Changes .val r))
   exits r zs l g f =
       qed W (‵ (fobs γ (codedHoleys (Entries .row) .code (heres (Entries .row) zs))) ∷ ‵ (fbor κ (Held (Entries .row) (length zs) b o γ)) ∷ ‵ (flft κ q) ∷ []) ∵
       suffices ! _ (ends-at 𝓤 H A self.ended stayed (self.clauses 𝓤 H A mem run) W bound (Changes .val r) r (zs, (tt, (tt, tt))) (l, (tt, (tt, tt)))) $ says ! f $
