@@ -1,15 +1,10 @@
--- The number by which a given certificate is refused is the one that its answer states, and no refusal has number 0.
-use borrow.Author.Tests.{eqb-true}
-use mathlib.Core.Path.{_≡_, refl, sym}
+-- The number by which a given certificate is refused is the one that its answer states.
+use mathlib.Core.Path.{_≡_, refl}
 use mathlib.Core.Bool.{Bool, true, false, not}
 use mathlib.Core.Option.{Option, none, some}
 use Prim.Native.Nat.{ℕ}
-use lib.Dec.{eqb}
 use lib.IntN.{ℤ}
 use Rattle.whole.specs.Choice.{if_then_else_}
-use Rattle.quantity.specs.declared.refusal.Refusal.{Refusal}
-use Rattle.quantity.specs.Refusals.{numberOf}
-use Rattle.quantity.proofs.Unique.{not-zero}
 use Rattle.scale.specs.declared.law.Law.{Law}
 use Rattle.certificate.specs.declared.certificate.Certificate.{Certificate}
 use Rattle.certificate.specs.Certificate.{certificateOf, refused, answered, sound, givenThen}
@@ -25,10 +20,3 @@ code-is (some law) a b c d wal = by (sound k)
     by : (t : Bool) → (if not t then refused 7 else answered k) .code ≡ (if not t then 7 else 0)
     by true = refl
     by false = refl
-
-pub not-made : (why : Refusal) → eqb (numberOf why) 0 ≡ false
-not-made why = by (eqb (numberOf why) 0) refl
-  where
-    by : (t : Bool) → eqb (numberOf why) 0 ≡ t → t ≡ false
-    by false e = refl
-    by true e = absurd (not-zero why (sym (eqb-true _ _ e)))

@@ -1,24 +1,15 @@
-// The register's entries, by value: what one entry is, how two of one thermometer become one, and what the tests of a table and of an imported list take
-// note of, entry by entry. The register itself, over a lent table, stands above this crate.
-mod answering;
+// An entry of the register, by value: the test of its certificate, how two entries of one thermometer become one, and how its mark is raised. What the tests of
+// whole tables and lists come to stands above this crate, in `verdict`, and the table that is lent in `register`.
 mod entry;
-mod testing;
 
-pub use answering::Change;
-pub use answering::accepted;
-pub use answering::import_answer;
-pub use answering::reading_answer;
-pub use answering::withdrawal_answer;
 pub use entry::Entry;
 pub use entry::Given;
 pub use entry::Serial;
 pub use entry::Thermometer;
+pub use entry::clashes;
+pub use entry::fault;
 pub use entry::free;
+pub use entry::is_free;
+pub use entry::is_live;
 pub use entry::joined;
 pub use entry::raised;
-pub use testing::Noted;
-pub use testing::Seen;
-pub use testing::note;
-pub use testing::nothing_noted;
-pub use testing::nothing_seen;
-pub use testing::see;

@@ -12,8 +12,8 @@ use Rattle.reading.specs.declared.reading.ReadingAnswer.{ReadingAnswer}
 use Rattle.reading.specs.Reading.{stated as read}
 use Rattle.entry.specs.declared.entry.Serial.{Serial}
 use Rattle.entry.specs.declared.entry.Thermometer.{Thermometer}
-use Rattle.entry.specs.declared.testing.Noted.{Noted}
-use Rattle.entry.specs.declared.answering.Change.{Change}
+use Rattle.verdict.specs.declared.testing.Noted.{Noted}
+use Rattle.verdict.specs.declared.answering.Change.{Change}
 use Rattle.register.specs.Table.{put as putFirst}
 use Rattle.register.specs.Import.{Tested, placedAll, ImportedAs}
 use Rattle.register.specs.Withdrawal.{WithdrawnAs}

@@ -21,7 +21,7 @@ use Rattle.reading.proofs.Demand.{law-asked, answers-close, answers-ordered}
 use Rattle.entry.specs.declared.entry.Entry.{Entry}
 use Rattle.entry.specs.declared.entry.Given.{Given}
 use Rattle.entry.specs.Entry.{isFree, isLive, raised}
-use Rattle.entry.specs.Answering.{ReadGiven}
+use Rattle.verdict.specs.Answering.{ReadGiven}
 use Rattle.register.specs.Table.{entryOf, badTable}
 use Rattle.register.specs.Withdrawal.{withdrawn}
 use Rattle.register.specs.Promised.{afterAll, markOf, Names, ReadsLive, HeldGood, ThroughGood, ThroughLaw, ThroughClose, ThroughOrdered, MarkHolds, StaysWithdrawn}

@@ -10,7 +10,7 @@ use Rattle.whole.specs.Choice.{if_then_else_}
 use Rattle.reading.specs.Reading.{Outcome}
 use Rattle.entry.specs.declared.entry.Entry.{Entry}
 use Rattle.entry.specs.Entry.{same, isFree, isLive, clash, merged, joined}
-use Rattle.entry.specs.Answering.{ReadGiven, ReadEntry}
+use Rattle.verdict.specs.Answering.{ReadGiven, ReadEntry}
 use Rattle.register.specs.Table.{entryOf}
 use Rattle.register.specs.Import.{importRefusal, imported}
 use Rattle.register.specs.Reading.{ReadThrough}

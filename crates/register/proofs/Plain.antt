@@ -12,34 +12,34 @@ use Rattle.reading.specs.declared.reading.ReadingAnswer.{ReadingAnswer}
 use Rattle.reading.specs.Reading.{stated as read}
 use Rattle.entry.specs.declared.entry.Entry.{Entry}
 use Rattle.entry.specs.declared.entry.Serial.{Serial}
-use Rattle.entry.specs.declared.testing.Seen.{Seen}
-use Rattle.entry.specs.declared.testing.Noted.{Noted}
-use Rattle.entry.specs.declared.answering.Change.{Change}
+use Rattle.verdict.specs.declared.testing.Seen.{Seen}
+use Rattle.verdict.specs.declared.testing.Noted.{Noted}
+use Rattle.verdict.specs.declared.answering.Change.{Change}
 use Rattle.entry.specs.Entry.{free, joined as joinedOf, raised as raisedTo}
-use Rattle.entry.specs.Testing.{nothingSeen, seen, nothingNoted, noted}
-use Rattle.entry.specs.Answering.{stated, importNumber, withdrawalNumber, ReadEntry}
-use Rattle.entry.proofs.nothing_seen as nothing-seen
-use Rattle.entry.proofs.nothing_seen.Symbol.{name as #nothing-seen}
-use Rattle.entry.proofs.see as see
-use Rattle.entry.proofs.see.Symbol.{name as #see}
+use Rattle.verdict.specs.Testing.{nothingSeen, seen, nothingNoted, noted}
+use Rattle.verdict.specs.Answering.{stated, importNumber, withdrawalNumber, ReadEntry}
+use Rattle.verdict.proofs.nothing_seen as nothing-seen
+use Rattle.verdict.proofs.nothing_seen.Symbol.{name as #nothing-seen}
+use Rattle.verdict.proofs.see as see
+use Rattle.verdict.proofs.see.Symbol.{name as #see}
 use Rattle.entry.proofs.free as free
 use Rattle.entry.proofs.free.Symbol.{name as #free}
-use Rattle.entry.proofs.nothing_noted as nothing-noted
-use Rattle.entry.proofs.nothing_noted.Symbol.{name as #nothing-noted}
-use Rattle.entry.proofs.note as note
-use Rattle.entry.proofs.note.Symbol.{name as #note}
+use Rattle.verdict.proofs.nothing_noted as nothing-noted
+use Rattle.verdict.proofs.nothing_noted.Symbol.{name as #nothing-noted}
+use Rattle.verdict.proofs.note as note
+use Rattle.verdict.proofs.note.Symbol.{name as #note}
 use Rattle.entry.proofs.joined as joined
 use Rattle.entry.proofs.joined.Symbol.{name as #joined}
 use Rattle.entry.proofs.raised as raised
 use Rattle.entry.proofs.raised.Symbol.{name as #raised}
-use Rattle.entry.proofs.import_answer as import-answer
-use Rattle.entry.proofs.import_answer.Symbol.{name as #import-answer}
-use Rattle.entry.proofs.withdrawal_answer as withdrawal-answer
-use Rattle.entry.proofs.withdrawal_answer.Symbol.{name as #withdrawal-answer}
-use Rattle.entry.proofs.accepted as accepted
-use Rattle.entry.proofs.accepted.Symbol.{name as #accepted}
-use Rattle.entry.proofs.reading_answer as reading-answer
-use Rattle.entry.proofs.reading_answer.Symbol.{name as #reading-answer}
+use Rattle.verdict.proofs.import_answer as import-answer
+use Rattle.verdict.proofs.import_answer.Symbol.{name as #import-answer}
+use Rattle.verdict.proofs.withdrawal_answer as withdrawal-answer
+use Rattle.verdict.proofs.withdrawal_answer.Symbol.{name as #withdrawal-answer}
+use Rattle.verdict.proofs.accepted as accepted
+use Rattle.verdict.proofs.accepted.Symbol.{name as #accepted}
+use Rattle.verdict.proofs.reading_answer as reading-answer
+use Rattle.verdict.proofs.reading_answer.Symbol.{name as #reading-answer}
 use Rattle.register.proofs.Kit.{ !, Atoms, Body, Calls, Contract, Env, FmC, Fun, Given, Heap, Is, Item, Loops, Memory, Routine, SProp, Seq, Triple, URA, _$_, _∵_, done, emp, ensured, ent, exE, fact, fjoin, frame, id⊢, join, lasts, nothing, owned, qed, raw, runs, says, sem, snd∗, tripleOf}
 use Rattle.register.proofs.Calls.{calls-plain}
 use Rattle.register.proofs.Sorts.{Answers, Changes, Entries, Good, Nanoohms, Noteds, Seens, Serials, Truth, Word}

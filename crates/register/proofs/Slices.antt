@@ -7,7 +7,7 @@ use mir.Syntax.{Lifetime, Opd as Operand, Place, call, seq}
 use types.Kit.{Post, lands, mean}
 use types.Run.{Opds}
 use Rattle.entry.specs.declared.entry.Entry.{Entry}
-use Rattle.entry.specs.declared.testing.Seen.{Seen}
+use Rattle.verdict.specs.declared.testing.Seen.{Seen}
 use Rattle.register.specs.Table.{firstAt, entryOf, badTable, places}
 use Rattle.register.proofs.table.find as find
 use Rattle.register.proofs.table.find.Symbol.{name as #find}

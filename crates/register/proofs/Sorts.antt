@@ -16,19 +16,19 @@ use Rattle.reading.proofs.reading.ReadingAnswer as answer
 use Rattle.reading.proofs.reading.ReadingAnswer.Laws as answer′
 use Rattle.entry.specs.declared.entry.Entry.{Entry}
 use Rattle.entry.specs.declared.entry.Thermometer.{Thermometer}
-use Rattle.entry.specs.declared.testing.Seen.{Seen}
+use Rattle.verdict.specs.declared.testing.Seen.{Seen}
 use Rattle.entry.proofs.entry.Entry as entry
 use Rattle.entry.proofs.entry.Entry.Laws as entry′
 use Rattle.entry.proofs.entry.Thermometer as thermometer
 use Rattle.entry.proofs.entry.Thermometer.Laws as thermometer′
 use Rattle.entry.proofs.entry.Serial as serial
 use Rattle.entry.proofs.entry.Serial.Laws as serial′
-use Rattle.entry.proofs.testing.Seen as seen
-use Rattle.entry.proofs.testing.Seen.Laws as seen′
-use Rattle.entry.proofs.testing.Noted as noted
-use Rattle.entry.proofs.testing.Noted.Laws as noted′
-use Rattle.entry.proofs.answering.Change as change
-use Rattle.entry.proofs.answering.Change.Laws as change′
+use Rattle.verdict.proofs.testing.Seen as seen
+use Rattle.verdict.proofs.testing.Seen.Laws as seen′
+use Rattle.verdict.proofs.testing.Noted as noted
+use Rattle.verdict.proofs.testing.Noted.Laws as noted′
+use Rattle.verdict.proofs.answering.Change as change
+use Rattle.verdict.proofs.answering.Change.Laws as change′
 
 pub record Sort : Type 2 where
   pub row : RattleType

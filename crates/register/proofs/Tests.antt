@@ -13,10 +13,10 @@ use lib.Seq.{drop-cons}
 use Rattle.whole.specs.Any.{any}
 use Rattle.whole.specs.Choice.{if_then_else_}
 use Rattle.entry.specs.declared.entry.Entry.{Entry}
-use Rattle.entry.specs.declared.testing.Seen.{Seen}
-use Rattle.entry.specs.declared.testing.Noted.{Noted}
+use Rattle.verdict.specs.declared.testing.Seen.{Seen}
+use Rattle.verdict.specs.declared.testing.Noted.{Noted}
 use Rattle.entry.specs.Entry.{isBad, isFree, free}
-use Rattle.entry.specs.Testing.{nothingSeen, seen, nothingNoted, noted, leftAfter}
+use Rattle.verdict.specs.Testing.{nothingSeen, seen, nothingNoted, noted, leftAfter}
 use Rattle.register.specs.Table.{has, firstAt, entryOf, count, twice, badTable, places}
 use Rattle.register.specs.Import.{unknown, unsound, unfit, clashing, isNew, Tested}
 

@@ -7,10 +7,10 @@ use lib.Dec.{T, eqb}
 use Rattle.whole.specs.Choice.{if_then_else_}
 use Rattle.entry.specs.declared.entry.Entry.{Entry}
 use Rattle.entry.specs.declared.entry.Serial.{Serial}
-use Rattle.entry.specs.declared.testing.Noted.{Noted}
-use Rattle.entry.specs.declared.testing.Seen.{Seen}
+use Rattle.verdict.specs.declared.testing.Noted.{Noted}
+use Rattle.verdict.specs.declared.testing.Seen.{Seen}
 use Rattle.entry.specs.Entry.{raised}
-use Rattle.entry.specs.Answering.{importNumber, withdrawalNumber}
+use Rattle.verdict.specs.Answering.{importNumber, withdrawalNumber}
 use Rattle.register.specs.Table.{entryOf, put, badTable, places}
 use Rattle.register.specs.Import.{Tested, placedAll, importRefusal, imported}
 use Rattle.register.specs.Withdrawal.{withdrawalRefusal, withdrawn}

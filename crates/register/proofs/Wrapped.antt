@@ -10,7 +10,7 @@ use mir.Syntax.{Opd as Operand, Place, call, seq, tyArray}
 use types.Kit.{Post, lands}
 use types.Run.{Opds}
 use Rattle.entry.specs.declared.entry.Entry.{Entry}
-use Rattle.entry.specs.declared.answering.Change.{Change}
+use Rattle.verdict.specs.declared.answering.Change.{Change}
 use Rattle.register.specs.declared.arrays.After.{After}
 use Rattle.register.proofs.arrays.After as after
 use Rattle.register.proofs.arrays.After.Laws as after′

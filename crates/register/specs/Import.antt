@@ -7,10 +7,10 @@ use lib.Dec.{eqb, ltb}
 use Rattle.whole.specs.Any.{any}
 use Rattle.whole.specs.Choice.{if_then_else_}
 use Rattle.entry.specs.declared.entry.Entry.{Entry}
-use Rattle.entry.specs.declared.testing.Noted.{Noted}
-use Rattle.entry.specs.declared.answering.Change.{Change}
+use Rattle.verdict.specs.declared.testing.Noted.{Noted}
+use Rattle.verdict.specs.declared.answering.Change.{Change}
 use Rattle.entry.specs.Entry.{isUnknown, isUnsound, isFree, clash, joined}
-use Rattle.entry.specs.Answering.{stated, importNumber}
+use Rattle.verdict.specs.Answering.{stated, importNumber}
 use Rattle.register.specs.Table.{entryOf, put, count, twice, badTable, places}
 
 -- 3: the law of an imported certificate is unknown; 7: an imported certificate is not sound.

@@ -18,9 +18,9 @@ use Rattle.reading.specs.Reading.{Outcome, stated as readAs}
 use Rattle.reading.specs.Promised.{Close}
 use Rattle.entry.specs.declared.entry.Entry.{Entry}
 use Rattle.entry.specs.declared.entry.Serial.{Serial}
-use Rattle.entry.specs.declared.answering.Change.{Change}
+use Rattle.verdict.specs.declared.answering.Change.{Change}
 use Rattle.entry.specs.Entry.{fault, isFree, isLive, free, joined, raised}
-use Rattle.entry.specs.Answering.{ReadGiven}
+use Rattle.verdict.specs.Answering.{ReadGiven}
 use Rattle.register.specs.Table.{entryOf, badTable}
 use Rattle.register.specs.Import.{short, importRefusal, imported, ImportedAs}
 use Rattle.register.specs.Withdrawal.{withdrawalRefusal, withdrawn, WithdrawnAs}

@@ -3,7 +3,7 @@ use mathlib.Core.List.{List}
 use Prim.Native.Nat.{ℕ}
 use Rattle.reading.specs.Reading.{Outcome}
 use Rattle.entry.specs.declared.entry.Entry.{Entry}
-use Rattle.entry.specs.Answering.{ReadEntry}
+use Rattle.verdict.specs.Answering.{ReadEntry}
 use Rattle.register.specs.Table.{entryOf, badTable}
 
 -- 23, then 20: there is no live certificate; then what the live certificate reads.

@@ -6,9 +6,9 @@ use lib.Dec.{eqb}
 use Rattle.whole.specs.Choice.{if_then_else_}
 use Rattle.entry.specs.declared.entry.Entry.{Entry}
 use Rattle.entry.specs.declared.entry.Serial.{Serial}
-use Rattle.entry.specs.declared.answering.Change.{Change}
+use Rattle.verdict.specs.declared.answering.Change.{Change}
 use Rattle.entry.specs.Entry.{raised}
-use Rattle.entry.specs.Answering.{stated, withdrawalNumber}
+use Rattle.verdict.specs.Answering.{stated, withdrawalNumber}
 use Rattle.register.specs.Table.{entryOf, put, badTable}
 
 -- 23, then 20: there is no such thermometer. 0 where the withdrawal is accepted.

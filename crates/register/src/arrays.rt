@@ -9,12 +9,12 @@ ghost use Rattle.register.specs.Reading.{ReadThrough};
 use crate::imports::import;
 use crate::readings::read;
 use crate::withdrawals::withdraw;
-use entry::Change;
 use entry::Entry;
 use entry::Serial;
 use entry::Thermometer;
 use quantity::Nanoohm;
 use reading::ReadingAnswer;
+use verdict::Change;
 
 // The table after an import or a withdrawal, and its answer.
 pub struct After {

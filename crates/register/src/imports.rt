@@ -5,14 +5,14 @@ use crate::table::examine;
 use crate::table::find;
 use crate::table::lookup;
 use crate::table::put;
-use entry::Change;
 use entry::Entry;
-use entry::Noted;
-use entry::accepted;
-use entry::import_answer;
 use entry::joined;
-use entry::note;
-use entry::nothing_noted;
+use verdict::Change;
+use verdict::Noted;
+use verdict::accepted;
+use verdict::import_answer;
+use verdict::note;
+use verdict::nothing_noted;
 
 // The tests of a list against a table with so many places left.
 pub fn check(table: &[Entry], list: &[Entry], places: u64) -> Noted

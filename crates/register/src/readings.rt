@@ -5,9 +5,9 @@ use crate::table::examine;
 use crate::table::lookup;
 use entry::Entry;
 use entry::Thermometer;
-use entry::reading_answer;
 use quantity::Nanoohm;
 use reading::ReadingAnswer;
+use verdict::reading_answer;
 
 // By the thermometer's live certificate, its law and no other.
 pub fn read(table: &[Entry], number: Thermometer, r: Nanoohm, r0: Nanoohm) -> ReadingAnswer

@@ -2,10 +2,10 @@
 ghost use mathlib.Core.Path.{_≡_};
 ghost use Rattle.register.specs.Table.{firstAt, entryOf, put as putFirst, badTable, places};
 use entry::Entry;
-use entry::Seen;
 use entry::free;
-use entry::nothing_seen;
-use entry::see;
+use verdict::Seen;
+use verdict::nothing_seen;
+use verdict::see;
 
 // The place of a number in a table or a list: the first that has it, or the length.
 pub fn find(entries: &[Entry], number: u64) -> usize

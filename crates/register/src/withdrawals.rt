@@ -3,13 +3,13 @@ ghost use Rattle.register.specs.Withdrawal.{WithdrawnAs};
 use crate::table::examine;
 use crate::table::lookup;
 use crate::table::put;
-use entry::Change;
 use entry::Entry;
 use entry::Serial;
 use entry::Thermometer;
-use entry::accepted;
 use entry::raised;
-use entry::withdrawal_answer;
+use verdict::Change;
+use verdict::accepted;
+use verdict::withdrawal_answer;
 
 // The thermometer's mark rises to the serial and never falls. A refused withdrawal changes nothing.
 pub fn withdraw(table: &mut [Entry], number: Thermometer, serial: Serial) -> Change

@@ -3,7 +3,6 @@
 ghost use Prim.Native.Nat.{_≤_};
 use draws::law_text;
 use draws::places_text;
-use entry::Change;
 use entry::Entry;
 use entry::Given;
 use entry::Serial;
@@ -20,6 +19,7 @@ use scale::Law;
 use scale::Name;
 use scale::NamedLaw;
 use scale::Zn;
+use verdict::Change;
 
 // ---- entries
 

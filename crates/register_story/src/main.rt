@@ -1,7 +1,6 @@
 // The register's story: a certificate that was withdrawn stays withdrawn when an import brings it back, and a newer one takes its place. The second
 // program makes what is expected (second/register_story.py).
 use draws::say_law;
-use entry::Change;
 use entry::Entry;
 use entry::Given;
 use entry::Serial;
@@ -19,6 +18,7 @@ use scale::Law;
 use scale::Name;
 use scale::Subrange;
 use scale::Zn;
+use verdict::Change;
 
 // ---- what is said
 

@@ -8,7 +8,7 @@ use lib.Dec.{lit<}
 use lib.ListN.{length, take}
 use lib.Seq.{length-take-le}
 use Rattle.entry.specs.declared.entry.Entry.{Entry}
-use Rattle.entry.specs.Answering.{stated as numberIn}
+use Rattle.verdict.specs.Answering.{stated as numberIn}
 use Rattle.register.specs.Import.{importRefusal, imported, ImportedAs}
 use Rattle.register.proofs.Kit.{ !, Atoms, FmC, Fun, Given, Heap, Is, Meets, Memory, Room, Routine, SProp, Stays, Tables, Triple, URA, Val, WpFn, _$_, _∵_, _⊛_, addr, agg, alloc0, alloc1, and-then, assigns, by, cited, done, drop, emp, ends-at, ent, enter, entered, erased, facts, fat, fjoin, fmOf, forget, frame, free0, free1, from, fst∗, fullShare, givenOf, goes-dropped, goes-none, imm, init, keep, land, lit, load, look, meets, move, mut, named, no-more, nothing, of-opd, onEntry, owned, params1, pass0, pass1, pointee, qed, raw, returns, rewrite, row, says, shows, sliceTy, sliceVal, split, stay-dropped, stay-none, stop, suffices, tables, tablesOf, tripleOf, tyRef, use1, use2, via, walkOf, walked, yes, ‵}
 use Rattle.register.proofs.Lent.{Local, array-in, array-out, lend-shr, back-shr, rest-of, cut-row, join-row}

@@ -6,7 +6,7 @@ use lib.Dec.{lit<}
 use Rattle.entry.specs.declared.entry.Entry.{Entry}
 use Rattle.entry.specs.declared.entry.Serial.{Serial}
 use Rattle.entry.specs.declared.entry.Thermometer.{Thermometer}
-use Rattle.entry.specs.Answering.{stated as numberIn}
+use Rattle.verdict.specs.Answering.{stated as numberIn}
 use Rattle.register.specs.Withdrawal.{WithdrawnAs}
 use Rattle.register.proofs.Kit.{ !, Atoms, FmC, Fun, Given, Heap, Is, Meets, Memory, Routine, SProp, Stays, Tables, Triple, URA, Val, WpFn, _$_, _∵_, _⊛_, addr, agg, alloc0, alloc1, and-then, assigns, by, cited, done, emp, ends-at, ent, enter, entered, erased, facts, fat, fjoin, fmOf, forget, frame, free0, free1, from, fst∗, fullShare, givenOf, goes-dropped, goes-none, init, keep, land, lit, load, look, meets, move, mut, no-more, nothing, of-opd, onEntry, owned, params1, pass0, pass1, pointee, qed, raw, returns, rewrite, row, says, shows, sliceTy, sliceVal, split, stay-dropped, stay-none, stop, suffices, tables, tablesOf, tripleOf, tyRef, use1, via, walkOf, walked, yes, ‵}
 use Rattle.register.proofs.Lent.{Local, array-in, array-out}

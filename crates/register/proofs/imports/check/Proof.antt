@@ -9,9 +9,9 @@ use lib.Dec.{ltb→lt, nltb→le, lit<}
 use lib.ListN.{length, getD, drop as dropL}
 use lib.WfN.{Nat·lt-wfRel}
 use Rattle.entry.specs.declared.entry.Entry.{Entry}
-use Rattle.entry.specs.declared.testing.Noted.{Noted}
+use Rattle.verdict.specs.declared.testing.Noted.{Noted}
 use Rattle.entry.specs.Entry.{free}
-use Rattle.entry.specs.Testing.{noted, nothingNoted}
+use Rattle.verdict.specs.Testing.{noted, nothingNoted}
 use Rattle.register.specs.Table.{firstAt, entryOf}
 use Rattle.register.specs.Import.{Tested}
 use Rattle.register.proofs.Kit.{ !, Atoms, Below, Calls, Env, FmC, Fun, GName, Given, Heap, Is, Item, Lft, Loops, Meets, Memory, Out, Room, Routine, SProp, Share, ShrSlice, Sq, Stays, Tables, Triple, URA, Val, Wp, WpFn, _$_, _∵_, _⊛_, afterBlock, afterSeq, afterTurn, again, alloc0, alloc1, and-then, anyQ, assigns, assigns-last, atRet, atReturn, bin, blocks, branches, by, cited, done, drop, emp, ends-at, ent, enter, entered, exec, fat, fdies, first, fjoin, fld, flft, fmOf, forget, frame, free0, free1, from, froom, fsplit, fst∗, ftrue, fullShare, givenOf, goes-none, goes-none-slice, hop, imm, init, join, jumps, land, lit, load, look, look-in, look-raw, loops, meets, move, named, no-more, nothing, now, of-opd, onEntry, only, owned, owns, params1, pass0, pass1, place-is, plain, pointee, qed, returns, rewrite, row, runs, says, shr-slice-tells, skips, slice-vals, sliceTy, split, stay-none, stay-none-slice, stop, store, sub, suffices, tables, tablesOf, tripleOf, tyBool, tyInt, tyPtr, tyRef, via, vint, vptr, w64, walkOf, walked, whole, yes, ‵, ⋆}
@@ -22,18 +22,18 @@ use Rattle.register.proofs.Sorts.{number-of, Entries, Good, Noteds, Wor
 use Rattle.register.proofs.Plain.{NothingNoted, Note, calls-nothing-noted, calls-note}
 use Rattle.register.proofs.Slices.{Find, Lookup, calls-find, calls-lookup}
 use Rattle.register.proofs.Tests.{notedFrom, noted-next, noted-end, noted-all}
-use Rattle.entry.proofs.nothing_noted.Symbol as nothing-noted-def
-use Rattle.entry.proofs.nothing_noted.Symbol.{name as #nothing-noted}
-use Rattle.entry.proofs.nothing_noted.Met as nothing-noted-thm
+use Rattle.verdict.proofs.nothing_noted.Symbol as nothing-noted-def
+use Rattle.verdict.proofs.nothing_noted.Symbol.{name as #nothing-noted}
+use Rattle.verdict.proofs.nothing_noted.Met as nothing-noted-thm
 use Rattle.register.proofs.table.find.Symbol as find-def
 use Rattle.register.proofs.table.find.Symbol.{name as #find}
 use Rattle.register.proofs.table.find.Met as find-thm
 use Rattle.register.proofs.table.lookup.Symbol as lookup-def
 use Rattle.register.proofs.table.lookup.Symbol.{name as #lookup}
 use Rattle.register.proofs.table.lookup.Met as lookup-thm
-use Rattle.entry.proofs.note.Symbol as note-def
-use Rattle.entry.proofs.note.Symbol.{name as #note}
-use Rattle.entry.proofs.note.Met as note-thm
+use Rattle.verdict.proofs.note.Symbol as note-def
+use Rattle.verdict.proofs.note.Symbol.{name as #note}
+use Rattle.verdict.proofs.note.Met as note-thm
 use Rattle.register.proofs.imports.check as self
 use Rattle.register.proofs.imports.check.Key.{name as #self}
 use Rattle.register.proofs.imports.check.Statement as stated
@@ -170,7 +170,7 @@ check-spec 𝓤 H 𝓜 𝓖 𝓡 =
     entered 𝓤 H (tripleOf 𝓤 H (𝓖 .A) self.signature (self.spec 𝓤 H (𝓖 .A) (𝓜 .mem) (𝓡 .run)))
     (tables 𝓤 H 𝓜 𝓡 code.env .C) (tables 𝓤 H 𝓜 𝓡 code.env .Λ) #self code.function (code.unfolded 𝓤 H 𝓜 𝓡)
     (check-meets 𝓤 H (𝓖 .A) (givenOf 𝓤 H 𝓜 𝓖) (𝓜 .mem) (𝓡 .run) (tablesOf 𝓤 H 𝓜 (tables 𝓤 H 𝓜 𝓡 code.env))
-    (cited 𝓤 H (NothingNoted 𝓤 H (𝓖 .A) (𝓜 .mem) (𝓡 .run)) 𝓜 𝓡 code.env #nothing-noted nothing-noted-def.routine code.calls-entry·nothing-noted (nothing-noted-thm.met 𝓤 H 𝓜 𝓖 𝓡))
+    (cited 𝓤 H (NothingNoted 𝓤 H (𝓖 .A) (𝓜 .mem) (𝓡 .run)) 𝓜 𝓡 code.env #nothing-noted nothing-noted-def.routine code.calls-verdict·nothing-noted (nothing-noted-thm.met 𝓤 H 𝓜 𝓖 𝓡))
     (cited 𝓤 H (Find 𝓤 H (𝓖 .A) (𝓜 .mem) (𝓡 .run)) 𝓜 𝓡 code.env #find find-def.routine code.calls-register·table·find (find-thm.met 𝓤 H 𝓜 𝓖 𝓡))
     (cited 𝓤 H (Lookup 𝓤 H (𝓖 .A) (𝓜 .mem) (𝓡 .run)) 𝓜 𝓡 code.env #lookup lookup-def.routine code.calls-register·table·lookup (lookup-thm.met 𝓤 H 𝓜 𝓖 𝓡))
-    (cited 𝓤 H (Note 𝓤 H (𝓖 .A) (𝓜 .mem) (𝓡 .run)) 𝓜 𝓡 code.env #note note-def.routine code.calls-entry·note (note-thm.met 𝓤 H 𝓜 𝓖 𝓡)))
+    (cited 𝓤 H (Note 𝓤 H (𝓖 .A) (𝓜 .mem) (𝓡 .run)) 𝓜 𝓡 code.env #note note-def.routine code.calls-verdict·note (note-thm.met 𝓤 H 𝓜 𝓖 𝓡)))

@@ -4,8 +4,8 @@ use mathlib.Core.List.{List, [], _∷_}
 use Prim.Native.Nat.{ℕ}
 use lib.ListN.{length}
 use Rattle.entry.specs.declared.entry.Entry.{Entry}
-use Rattle.entry.specs.declared.answering.Change.{Change}
-use Rattle.entry.specs.Answering.{stated as numberIn}
+use Rattle.verdict.specs.declared.answering.Change.{Change}
+use Rattle.verdict.specs.Answering.{stated as numberIn}
 use Rattle.register.specs.Table.{places}
 use Rattle.register.specs.Import.{ImportedAs}
 use Rattle.register.proofs.Kit.{ !, Atoms, FmC, Fun, GName, Given, Heap, Held, Is, Lft, Meets, Memory, MutSlice, Room, Routine, SProp, Share, ShrSlice, Stays, Tables, Triple, URA, Val, WpFn, _$_, _∵_, _⊛_, addr, agg, alloc0, alloc1, and-then, assigns, at-slice, atRet, branches, by, cited, closes-slice, codedHoleys, done, drop, emp, ends-at, ent, enter, entered, exec, fbor, first, fjoin, fld, flft, fmOf, fobs, forget, frame, free0, free1, from, fsplit, fst∗, ftrue, givenOf, goes-none-slice, goes-slice, heres, hop, init, join, land, land-last, load, look, look-in, meets, move, mut-slice-tells, named, no-more, nothing, now, of-opd, onEntry, only, opens-slice, owned, owns, params1, pass0, pass1, plain, pureI, qed, returns, row, says, shr-slice-tells, skips, slice-vals, sliceVal, split, stay-none-slice, stay-slice, stop, sub, suffices, tables, tablesOf, tripleOf, via, walkOf, walked, whole, yes, ‵, ⋆}
@@ -22,12 +22,12 @@ use Rattle.register.proofs.table.examine.Met as examine-thm
 use Rattle.register.proofs.imports.check.Symbol as check-def
 use Rattle.register.proofs.imports.check.Symbol.{name as #check}
 use Rattle.register.proofs.imports.check.Met as check-thm
-use Rattle.entry.proofs.import_answer.Symbol as import-answer-def
-use Rattle.entry.proofs.import_answer.Symbol.{name as #import-answer}
-use Rattle.entry.proofs.import_answer.Met as import-answer-thm
-use Rattle.entry.proofs.accepted.Symbol as accepted-def
-use Rattle.entry.proofs.accepted.Symbol.{name as #accepted}
-use Rattle.entry.proofs.accepted.Met as accepted-thm
+use Rattle.verdict.proofs.import_answer.Symbol as import-answer-def
+use Rattle.verdict.proofs.import_answer.Symbol.{name as #import-answer}
+use Rattle.verdict.proofs.import_answer.Met as import-answer-thm
+use Rattle.verdict.proofs.accepted.Symbol as accepted-def
+use Rattle.verdict.proofs.accepted.Symbol.{name as #accepted}
+use Rattle.verdict.proofs.accepted.Met as accepted-thm
 use Rattle.register.proofs.imports.place_all.Symbol as place-all-def
 use Rattle.register.proofs.imports.place_all.Symbol.{name as #place-all}
 use Rattle.register.proofs.imports.place_all.Met as place-all-thm
@@ -115,6 +115,6 @@ import-spec 𝓤 H 𝓜 𝓖 𝓡 =
     (import-meets 𝓤 H (𝓖 .A) (givenOf 𝓤 H 𝓜 𝓖) (𝓜 .mem) (𝓡 .run) (tablesOf 𝓤 H 𝓜 (tables 𝓤 H 𝓜 𝓡 code.env))
     (cited 𝓤 H (Examine 𝓤 H (𝓖 .A) (𝓜 .mem) (𝓡 .run)) 𝓜 𝓡 code.env #examine examine-def.routine code.calls-register·table·examine (examine-thm.met 𝓤 H 𝓜 𝓖 𝓡))
     (cited 𝓤 H (Check 𝓤 H (𝓖 .A) (𝓜 .mem) (𝓡 .run)) 𝓜 𝓡 code.env #check check-def.routine code.calls-register·imports·check (check-thm.met 𝓤 H 𝓜 𝓖 𝓡))
-    (cited 𝓤 H (ImportAnswer 𝓤 H (𝓖 .A) (𝓜 .mem) (𝓡 .run)) 𝓜 𝓡 code.env #import-answer import-answer-def.routine code.calls-entry·import-answer (import-answer-thm.met 𝓤 H 𝓜 𝓖 𝓡))
-    (cited 𝓤 H (Accepted 𝓤 H (𝓖 .A) (𝓜 .mem) (𝓡 .run)) 𝓜 𝓡 code.env #accepted accepted-def.routine code.calls-entry·accepted (accepted-thm.met 𝓤 H 𝓜 𝓖 𝓡))
+    (cited 𝓤 H (ImportAnswer 𝓤 H (𝓖 .A) (𝓜 .mem) (𝓡 .run)) 𝓜 𝓡 code.env #import-answer import-answer-def.routine code.calls-verdict·import-answer (import-answer-thm.met 𝓤 H 𝓜 𝓖 𝓡))
+    (cited 𝓤 H (Accepted 𝓤 H (𝓖 .A) (𝓜 .mem) (𝓡 .run)) 𝓜 𝓡 code.env #accepted accepted-def.routine code.calls-verdict·accepted (accepted-thm.met 𝓤 H 𝓜 𝓖 𝓡))
     (cited 𝓤 H (PlaceAll 𝓤 H (𝓖 .A) (𝓜 .mem) (𝓡 .run)) 𝓜 𝓡 code.env #place-all place-all-def.routine code.calls-register·imports·place-all (place-all-thm.met 𝓤 H 𝓜 𝓖 𝓡)))

@@ -9,7 +9,7 @@ use Rattle.reading.specs.declared.reading.ReadingAnswer.{ReadingAnswer}
 use Rattle.reading.specs.Reading.{stated as readAs}
 use Rattle.entry.specs.declared.entry.Entry.{Entry}
 use Rattle.entry.specs.declared.entry.Thermometer.{Thermometer}
-use Rattle.entry.specs.Answering.{ReadEntry}
+use Rattle.verdict.specs.Answering.{ReadEntry}
 use Rattle.register.specs.Table.{badTable}
 use Rattle.register.specs.Reading.{ReadThrough}
 use Rattle.register.proofs.Kit.{ !, Atoms, FmC, Fun, GName, Given, Heap, Is, Lft, Meets, Memory, Room, Routine, SProp, Share, ShrSlice, Stays, Tables, Triple, URA, Val, WpFn, _$_, _∵_, _⊛_, alloc0, alloc1, and-then, by, cited, done, drop, emp, ends-at, ent, enter, entered, fjoin, fld, flft, fmOf, forget, frame, free0, free1, from, fsplit, fst∗, ftrue, givenOf, goes-none, goes-none-slice, init, join, land, load, look, look-in, meets, move, named, no-more, nothing, now, onEntry, only, owned, owns, params1, pass0, pass1, plain, qed, returns, row, says, shr-slice-tells, slice-vals, split, stay-none, stay-none-slice, stop, sub, suffices, tables, tablesOf, tripleOf, via, walkOf, walked, whole, yes, ‵, ⋆}
@@ -24,9 +24,9 @@ use Rattle.register.proofs.table.examine.Met as examine-thm
 use Rattle.register.proofs.table.lookup.Symbol as lookup-def
 use Rattle.register.proofs.table.lookup.Symbol.{name as #lookup}
 use Rattle.register.proofs.table.lookup.Met as lookup-thm
-use Rattle.entry.proofs.reading_answer.Symbol as reading-answer-def
-use Rattle.entry.proofs.reading_answer.Symbol.{name as #reading-answer}
-use Rattle.entry.proofs.reading_answer.Met as reading-answer-thm
+use Rattle.verdict.proofs.reading_answer.Symbol as reading-answer-def
+use Rattle.verdict.proofs.reading_answer.Symbol.{name as #reading-answer}
+use Rattle.verdict.proofs.reading_answer.Met as reading-answer-thm
 use Rattle.register.proofs.readings.read as self
 use Rattle.register.proofs.readings.read.Key.{name as #self}
 use Rattle.register.proofs.readings.read.Statement as stated
@@ -83,4 +83,4 @@ read-spec 𝓤 H 𝓜 𝓖 𝓡 =
     (read-meets 𝓤 H (𝓖 .A) (givenOf 𝓤 H 𝓜 𝓖) (𝓜 .mem) (𝓡 .run) (tablesOf 𝓤 H 𝓜 (tables 𝓤 H 𝓜 𝓡 code.env))
     (cited 𝓤 H (Examine 𝓤 H (𝓖 .A) (𝓜 .mem) (𝓡 .run)) 𝓜 𝓡 code.env #examine examine-def.routine code.calls-register·table·examine (examine-thm.met 𝓤 H 𝓜 𝓖 𝓡))
     (cited 𝓤 H (Lookup 𝓤 H (𝓖 .A) (𝓜 .mem) (𝓡 .run)) 𝓜 𝓡 code.env #lookup lookup-def.routine code.calls-register·table·lookup (lookup-thm.met 𝓤 H 𝓜 𝓖 𝓡))
-    (cited 𝓤 H (AnswerRead 𝓤 H (𝓖 .A) (𝓜 .mem) (𝓡 .run)) 𝓜 𝓡 code.env #reading-answer reading-answer-def.routine code.calls-entry·reading-answer (reading-answer-thm.met 𝓤 H 𝓜 𝓖 𝓡)))
+    (cited 𝓤 H (AnswerRead 𝓤 H (𝓖 .A) (𝓜 .mem) (𝓡 .run)) 𝓜 𝓡 code.env #reading-answer reading-answer-def.routine code.calls-verdict·reading-answer (reading-answer-thm.met 𝓤 H 𝓜 𝓖 𝓡)))

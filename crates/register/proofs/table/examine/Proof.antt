@@ -10,9 +10,9 @@ use lib.Dec.{ltb→lt, nltb→le, lit<}
 use lib.ListN.{length, getD, drop as dropL}
 use lib.WfN.{Nat·lt-wfRel}
 use Rattle.entry.specs.declared.entry.Entry.{Entry}
-use Rattle.entry.specs.declared.testing.Seen.{Seen}
+use Rattle.verdict.specs.declared.testing.Seen.{Seen}
 use Rattle.entry.specs.Entry.{free}
-use Rattle.entry.specs.Testing.{seen, nothingSeen}
+use Rattle.verdict.specs.Testing.{seen, nothingSeen}
 use Rattle.register.specs.Table.{firstAt, badTable, places}
 use Rattle.register.proofs.Kit.{ !, Atoms, Below, Calls, Env, FmC, Fun, GName, Given, Heap, Is, Item, Lft, Loops, Meets, Memory, Out, Room, Routine, SProp, Share, ShrSlice, Sq, Stays, Tables, Triple, URA, Val, Wp, WpFn, _$_, _∵_, _⊛_, afterBlock, afterSeq, afterTurn, again, alloc0, alloc1, and-then, anyQ, assigns, assigns-last, atRet, atReturn, bin, blocks, branches, by, cited, done, drop, emp, ends-at, ent, enter, entered, exec, fat, fdies, first, fjoin, fld, flft, fmOf, forget, frame, free0, free1, from, froom, fsplit, fst∗, ftrue, fullShare, givenOf, goes-none-slice, hop, imm, init, join, jumps, land, lit, load, look, look-in, look-raw, loops, meets, move, named, no-more, nothing, now, of-opd, onEntry, only, owned, owns, params1, pass0, pass1, place-is, plain, pointee, qed, returns, rewrite, row, runs, says, shr-slice-tells, skips, slice-vals, sliceTy, split, stay-none-slice, stop, store, sub, suffices, tables, tablesOf, tripleOf, tyBool, tyInt, tyPtr, tyRef, via, vint, vptr, w64, walkOf, walked, whole, yes, ‵, ⋆}
 use Rattle.register.proofs.Calls.{Shared}
@@ -22,15 +22,15 @@ use Rattle.register.proofs.Sorts.{number-of, Entries, Good, Seens, Word
 use Rattle.register.proofs.Plain.{NothingSeen, See, calls-nothing-seen, calls-see}
 use Rattle.register.proofs.Slices.{Find, calls-find}
 use Rattle.register.proofs.Tests.{seenFrom, seen-next, seen-end, seen-room, seen-all}
-use Rattle.entry.proofs.nothing_seen.Symbol as nothing-seen-def
-use Rattle.entry.proofs.nothing_seen.Symbol.{name as #nothing-seen}
-use Rattle.entry.proofs.nothing_seen.Met as nothing-seen-thm
+use Rattle.verdict.proofs.nothing_seen.Symbol as nothing-seen-def
+use Rattle.verdict.proofs.nothing_seen.Symbol.{name as #nothing-seen}
+use Rattle.verdict.proofs.nothing_seen.Met as nothing-seen-thm
 use Rattle.register.proofs.table.find.Symbol as find-def
 use Rattle.register.proofs.table.find.Symbol.{name as #find}
 use Rattle.register.proofs.table.find.Met as find-thm
-use Rattle.entry.proofs.see.Symbol as see-def
-use Rattle.entry.proofs.see.Symbol.{name as #see}
-use Rattle.entry.proofs.see.Met as see-thm
+use Rattle.verdict.proofs.see.Symbol as see-def
+use Rattle.verdict.proofs.see.Symbol.{name as #see}
+use Rattle.verdict.proofs.see.Met as see-thm
 use Rattle.register.proofs.table.examine as self
 use Rattle.register.proofs.table.examine.Key.{name as #self}
 use Rattle.register.proofs.table.examine.Statement as stated
@@ -165,6 +165,6 @@ examine-spec 𝓤 H 𝓜 𝓖 𝓡 =
     entered 𝓤 H (tripleOf 𝓤 H (𝓖 .A) self.signature (self.spec 𝓤 H (𝓖 .A) (𝓜 .mem) (𝓡 .run)))
     (tables 𝓤 H 𝓜 𝓡 code.env .C) (tables 𝓤 H 𝓜 𝓡 code.env .Λ) #self code.function (code.unfolded 𝓤 H 𝓜 𝓡)
     (examine-meets 𝓤 H (𝓖 .A) (givenOf 𝓤 H 𝓜 𝓖) (𝓜 .mem) (𝓡 .run) (tablesOf 𝓤 H 𝓜 (tables 𝓤 H 𝓜 𝓡 code.env))
-    (cited 𝓤 H (NothingSeen 𝓤 H (𝓖 .A) (𝓜 .mem) (𝓡 .run)) 𝓜 𝓡 code.env #nothing-seen nothing-seen-def.routine code.calls-entry·nothing-seen (nothing-seen-thm.met 𝓤 H 𝓜 𝓖 𝓡))
+    (cited 𝓤 H (NothingSeen 𝓤 H (𝓖 .A) (𝓜 .mem) (𝓡 .run)) 𝓜 𝓡 code.env #nothing-seen nothing-seen-def.routine code.calls-verdict·nothing-seen (nothing-seen-thm.met 𝓤 H 𝓜 𝓖 𝓡))
     (cited 𝓤 H (Find 𝓤 H (𝓖 .A) (𝓜 .mem) (𝓡 .run)) 𝓜 𝓡 code.env #find find-def.routine code.calls-register·table·find (find-thm.met 𝓤 H 𝓜 𝓖 𝓡))
-    (cited 𝓤 H (See 𝓤 H (𝓖 .A) (𝓜 .mem) (𝓡 .run)) 𝓜 𝓡 code.env #see see-def.routine code.calls-entry·see (see-thm.met 𝓤 H 𝓜 𝓖 𝓡)))
+    (cited 𝓤 H (See 𝓤 H (𝓖 .A) (𝓜 .mem) (𝓡 .run)) 𝓜 𝓡 code.env #see see-def.routine code.calls-verdict·see (see-thm.met 𝓤 H 𝓜 𝓖 𝓡)))

@@ -6,8 +6,8 @@ use lib.ListN.{length}
 use Rattle.entry.specs.declared.entry.Entry.{Entry}
 use Rattle.entry.specs.declared.entry.Serial.{Serial}
 use Rattle.entry.specs.declared.entry.Thermometer.{Thermometer}
-use Rattle.entry.specs.declared.answering.Change.{Change}
-use Rattle.entry.specs.Answering.{stated as numberIn}
+use Rattle.verdict.specs.declared.answering.Change.{Change}
+use Rattle.verdict.specs.Answering.{stated as numberIn}
 use Rattle.register.specs.Withdrawal.{WithdrawnAs}
 use Rattle.register.proofs.Kit.{ !, Atoms, FmC, Fun, GName, Given, Heap, Held, Is, Lft, Meets, Memory, MutSlice, Room, Routine, SProp, Share, Stays, Tables, Triple, URA, Val, WpFn, _$_, _∵_, _⊛_, addr, agg, alloc0, alloc1, and-then, assigns, at-slice, atRet, branches, by, cited, closes-slice, codedHoleys, done, drop, emp, ends-at, ent, enter, entered, exec, fbor, first, fjoin, fld, flft, fmOf, fobs, forget, frame, free0, free1, from, fsplit, fst∗, ftrue, givenOf, goes-none, goes-slice, heres, hop, init, join, land, land-last, load, look, look-in, meets, move, mut-slice-tells, named, no-more, nothing, now, of-opd, onEntry, only, opens-slice, owned, owns, params1, pass0, pass1, plain, pureI, qed, returns, row, says, skips, slice-vals, sliceVal, split, stay-none, stay-slice, stop, sub, suffices, tables, tablesOf, tripleOf, via, walkOf, walked, whole, yes, ‵, ⋆}
 use Rattle.register.proofs.Lent.{at-list, whole-slice}
@@ -22,12 +22,12 @@ use Rattle.register.proofs.table.examine.Met as examine-thm
 use Rattle.register.proofs.table.lookup.Symbol as lookup-def
 use Rattle.register.proofs.table.lookup.Symbol.{name as #lookup}
 use Rattle.register.proofs.table.lookup.Met as lookup-thm
-use Rattle.entry.proofs.withdrawal_answer.Symbol as withdrawal-answer-def
-use Rattle.entry.proofs.withdrawal_answer.Symbol.{name as #withdrawal-answer}
-use Rattle.entry.proofs.withdrawal_answer.Met as withdrawal-answer-thm
-use Rattle.entry.proofs.accepted.Symbol as accepted-def
-use Rattle.entry.proofs.accepted.Symbol.{name as #accepted}
-use Rattle.entry.proofs.accepted.Met as accepted-thm
+use Rattle.verdict.proofs.withdrawal_answer.Symbol as withdrawal-answer-def
+use Rattle.verdict.proofs.withdrawal_answer.Symbol.{name as #withdrawal-answer}
+use Rattle.verdict.proofs.withdrawal_answer.Met as withdrawal-answer-thm
+use Rattle.verdict.proofs.accepted.Symbol as accepted-def
+use Rattle.verdict.proofs.accepted.Symbol.{name as #accepted}
+use Rattle.verdict.proofs.accepted.Met as accepted-thm
 use Rattle.entry.proofs.raised.Symbol as raised-def
 use Rattle.entry.proofs.raised.Symbol.{name as #raised}
 use Rattle.entry.proofs.raised.Met as raised-thm
@@ -117,7 +117,7 @@ withdraw-spec 𝓤 H 𝓜 𝓖 𝓡 =
     (withdraw-meets 𝓤 H (𝓖 .A) (givenOf 𝓤 H 𝓜 𝓖) (𝓜 .mem) (𝓡 .run) (tablesOf 𝓤 H 𝓜 (tables 𝓤 H 𝓜 𝓡 code.env))
     (cited 𝓤 H (Examine 𝓤 H (𝓖 .A) (𝓜 .mem) (𝓡 .run)) 𝓜 𝓡 code.env #examine examine-def.routine code.calls-register·table·examine (examine-thm.met 𝓤 H 𝓜 𝓖 𝓡))
     (cited 𝓤 H (Lookup 𝓤 H (𝓖 .A) (𝓜 .mem) (𝓡 .run)) 𝓜 𝓡 code.env #lookup lookup-def.routine code.calls-register·table·lookup (lookup-thm.met 𝓤 H 𝓜 𝓖 𝓡))
-    (cited 𝓤 H (WithdrawalAnswer 𝓤 H (𝓖 .A) (𝓜 .mem) (𝓡 .run)) 𝓜 𝓡 code.env #withdrawal-answer withdrawal-answer-def.routine code.calls-entry·withdrawal-answer (withdrawal-answer-thm.met 𝓤 H 𝓜 𝓖 𝓡))
-    (cited 𝓤 H (Accepted 𝓤 H (𝓖 .A) (𝓜 .mem) (𝓡 .run)) 𝓜 𝓡 code.env #accepted accepted-def.routine code.calls-entry·accepted (accepted-thm.met 𝓤 H 𝓜 𝓖 𝓡))
+    (cited 𝓤 H (WithdrawalAnswer 𝓤 H (𝓖 .A) (𝓜 .mem) (𝓡 .run)) 𝓜 𝓡 code.env #withdrawal-answer withdrawal-answer-def.routine code.calls-verdict·withdrawal-answer (withdrawal-answer-thm.met 𝓤 H 𝓜 𝓖 𝓡))
+    (cited 𝓤 H (Accepted 𝓤 H (𝓖 .A) (𝓜 .mem) (𝓡 .run)) 𝓜 𝓡 code.env #accepted accepted-def.routine code.calls-verdict·accepted (accepted-thm.met 𝓤 H 𝓜 𝓖 𝓡))
     (cited 𝓤 H (Raised 𝓤 H (𝓖 .A) (𝓜 .mem) (𝓡 .run)) 𝓜 𝓡 code.env #raised raised-def.routine code.calls-entry·raised (raised-thm.met 𝓤 H 𝓜 𝓖 𝓡))
     (cited 𝓤 H (Put 𝓤 H (𝓖 .A) (𝓜 .mem) (𝓡 .run)) 𝓜 𝓡 code.env #put put-def.routine code.calls-register·table·put (put-thm.met 𝓤 H 𝓜 𝓖 𝓡)))

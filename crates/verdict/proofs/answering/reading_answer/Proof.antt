@@ -4,9 +4,9 @@ use mir.Syntax.{w64}
 use mir.Val.{SFits}
 use mir.Facts.{toZ-ofZ}
 use Rattle.reading.specs.Reading.{stated}
-use Rattle.entry.specs.Answering.{ReadGiven}
-use Rattle.entry.proofs.answering.reading_answer.Statement.{statement}
-use Rattle.entry.proofs.answering.reading_answer.Tie as tie
+use Rattle.verdict.specs.Answering.{ReadGiven}
+use Rattle.verdict.proofs.answering.reading_answer.Statement.{statement}
+use Rattle.verdict.proofs.answering.reading_answer.Tie as tie
 
 returns : tie.Need-returns
 returns c = rw (c .if1 .taken)

@@ -1,11 +1,11 @@
 // What the tests of a table and of an imported list have met so far, and with one entry more.
 ghost use mathlib.Core.Path.{_≡_};
 ghost use Prim.Native.Nat.{_<_, _+_, _-_, _^_};
-ghost use Rattle.entry.specs.Testing.{seen as seenWith, noted as notedWith, nothingSeen, nothingNoted, leftAfter};
-use crate::entry::Entry;
-use crate::entry::clashes;
-use crate::entry::fault;
-use crate::entry::is_free;
+ghost use Rattle.verdict.specs.Testing.{seen as seenWith, noted as notedWith, nothingSeen, nothingNoted, leftAfter};
+use entry::Entry;
+use entry::clashes;
+use entry::fault;
+use entry::is_free;
 
 // Of a table: whether it holds a thermometer twice or a bad certificate, and how many places are free.
 pub struct Seen {

@@ -1,7 +1,7 @@
 use borrow.Author.Needs.{needs}
 use mathlib.Core.Path.{sym, _∙_}
-use Rattle.entry.proofs.testing.see.Statement.{statement}
-use Rattle.entry.proofs.testing.see.Tie as tie
+use Rattle.verdict.proofs.testing.see.Statement.{statement}
+use Rattle.verdict.proofs.testing.see.Tie as tie
 
 is-free-requires : tie.Need-is-free-requires
 is-free-requires c κs = search needs

@@ -1,6 +1,6 @@
 use borrow.Author.Needs.{needs}
-use Rattle.entry.proofs.testing.left_after.Statement.{statement}
-use Rattle.entry.proofs.testing.left_after.Tie as tie
+use Rattle.verdict.proofs.testing.left_after.Statement.{statement}
+use Rattle.verdict.proofs.testing.left_after.Tie as tie
 
 less-one-requires : tie.Need-less-one-requires
 less-one-requires c κs = search needs

@@ -1,13 +1,13 @@
 // What an import, a withdrawal and a reading answer.
 ghost use mathlib.Core.Path.{_≡_};
 ghost use lib.Dec.{eqb};
-ghost use Rattle.entry.specs.Answering.{stated as numberIn, importNumber, withdrawalNumber, ReadEntry};
+ghost use Rattle.verdict.specs.Answering.{stated as numberIn, importNumber, withdrawalNumber, ReadEntry};
 ghost use Rattle.reading.specs.Reading.{stated};
-use crate::entry::Entry;
-use crate::entry::is_free;
-use crate::entry::is_live;
 use crate::testing::Noted;
 use crate::testing::Seen;
+use entry::Entry;
+use entry::is_free;
+use entry::is_live;
 use quantity::Nanoohm;
 use quantity::Refusal;
 use reading::ReadingAnswer;

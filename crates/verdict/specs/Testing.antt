@@ -4,10 +4,10 @@ use mathlib.Core.Bool.{Bool, false, _&&_, _||_, not}
 use Prim.Native.Nat.{ℕ, _+_, _-_}
 use lib.Dec.{eqb}
 use Rattle.whole.specs.Choice.{if_then_else_}
 use Rattle.entry.specs.declared.entry.Entry.{Entry}
-use Rattle.entry.specs.declared.testing.Seen.{Seen}
-use Rattle.entry.specs.declared.testing.Noted.{Noted}
+use Rattle.verdict.specs.declared.testing.Seen.{Seen}
+use Rattle.verdict.specs.declared.testing.Noted.{Noted}
 use Rattle.entry.specs.Entry.{isUnknown, isUnsound, isBad, isFree, clash}
 
 abbrev pub nothingSeen : Seen
 nothingSeen = record { bad = false; places = 0 }

@@ -1,7 +1,7 @@
 use borrow.Author.Needs.{needs}
 use mathlib.Core.Path.{sym, _∙_}
-use Rattle.entry.proofs.answering.withdrawal_answer.Statement.{statement}
-use Rattle.entry.proofs.answering.withdrawal_answer.Tie as tie
+use Rattle.verdict.proofs.answering.withdrawal_answer.Statement.{statement}
+use Rattle.verdict.proofs.answering.withdrawal_answer.Tie as tie
 
 returns : tie.Need-returns
 returns c = search needs

@@ -1,6 +1,6 @@
 use borrow.Author.Needs.{needs}
-use Rattle.entry.proofs.testing.note.Statement.{statement}
-use Rattle.entry.proofs.testing.note.Tie as tie
+use Rattle.verdict.proofs.testing.note.Statement.{statement}
+use Rattle.verdict.proofs.testing.note.Tie as tie
 
 fault-requires : tie.Need-fault-requires
 fault-requires c κs = search needs

@@ -5,11 +5,11 @@ use Prim.Native.Nat.{ℕ}
 use Rattle.whole.specs.Choice.{if_then_else_}
 use Rattle.quantity.specs.Refusals.{numberOf}
 use Rattle.reading.specs.Reading.{Outcome, refused, ReadNamed}
 use Rattle.entry.specs.declared.entry.Given.{Given}
 use Rattle.entry.specs.declared.entry.Entry.{Entry}
-use Rattle.entry.specs.declared.answering.Change.{Change}
-use Rattle.entry.specs.declared.answering.Change.the-variants.{Made, Refused}
+use Rattle.verdict.specs.declared.answering.Change.{Change}
+use Rattle.verdict.specs.declared.answering.Change.the-variants.{Made, Refused}
 use Rattle.entry.specs.Entry.{isFree, isLive}
 
 -- What each case stands for: 0, or the number of the refusal.
 abbrev pub stated : Change → ℕ

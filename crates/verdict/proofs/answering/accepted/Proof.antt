@@ -1,7 +1,7 @@
 use borrow.Author.Needs.{needs}
-use Rattle.entry.proofs.Faults.{not-made}
-use Rattle.entry.proofs.answering.accepted.Statement.{statement}
-use Rattle.entry.proofs.answering.accepted.Tie as tie
+use Rattle.verdict.proofs.Unique.{not-made}
+use Rattle.verdict.proofs.answering.accepted.Statement.{statement}
+use Rattle.verdict.proofs.answering.accepted.Tie as tie
 
 enum-told : tie.Need-enum-told
 enum-told c = search needs

@@ -1,0 +1,2 @@
+pub mod Testing
+pub mod Answering
