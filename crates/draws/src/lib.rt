@@ -3,7 +3,6 @@ ghost use Prim.Native.Nat.{_≤_, _^_};
 ghost use lib.IntN.{natAbs};
 use evidence::Drawn;
 use evidence::Generator;
-use evidence::say;
 use scale::Ag;
 use scale::Al;
 use scale::CURVE;
@@ -70,22 +69,10 @@ pub fn law_text(line: &mut [u8], from: usize, law: Law) -> usize {
     }
 }
 
-fn say_subrange(subrange: Subrange) {
-    match subrange {
-        Subrange::Ga => say(b" ga"),
-        Subrange::In => say(b" in"),
-        Subrange::Sn => say(b" sn"),
-        Subrange::Zn => say(b" zn"),
-        Subrange::Al => say(b" al"),
-        Subrange::Ag => say(b" ag"),
-    }
-}
-
 pub fn say_law(law: Law) {
-    match law {
-        Law::Curve => say(b" curve"),
-        Law::Scale(subrange) => say_subrange(subrange),
-    }
+    let mut name = [0u8; 6];
+    let len = law_text(&mut name, 0, law);
+    evidence::print(&name, len);
 }
 
 pub fn places_text(

@@ -21,3 +21,4 @@ pub use line::text;
 pub use report::Report;
 pub use report::Written;
 pub use report::empty_line;
+pub use report::print;

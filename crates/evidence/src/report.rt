@@ -29,7 +29,8 @@ fn digested(digest: u64, byte: u8) -> u64 {
     (digest % 4_294_967_291 * 16_777_619 + byte as u64 + 1) % 4_294_967_291
 }
 
-fn print(line: &[u8], len: usize) {
+// The bytes that a line has so far.
+pub fn print(line: &[u8], len: usize) {
     if len <= line.len() {
         io::write_all(STDOUT_FILENO, &line[..len]);
     }

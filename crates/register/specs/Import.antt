@@ -36,7 +36,7 @@ isNew table e = isFree (entryOf table (e .number .0))
 abbrev pub short : List Entry → List Entry → Bool
 short table list = ltb (places table) (count (isNew table) list)
 
--- What the tests of a list find, the table having so many places left.
+-- What the tests of a list find, the table having so many places left: a step of the code, which the promise of an import does not cite.
 pub record Tested (table list : List Entry) (left : ℕ) (found : Noted) : Type 0 where
   pub of-unknown : found .unknown ≡ any unknown list
   pub of-unsound : found .unsound ≡ any unsound list
