@@ -4,15 +4,19 @@ use mathlib.Core.List.{List, [], _∷_}
 use mathlib.Core.Option.{Option}
 use Prim.Native.Nat.{ℕ}
 use lib.IntN.{ℤ, pos, negℤ}
-use Rattle.quantity.specs.RatioAnswer.{ratioAnswer}
+use Rattle.quantity.specs.Outcomes.{Outcome, answered, refused, Follows}
+use Rattle.quantity.specs.Ratios.{ratioRule}
 use Rattle.reference.specs.Reference.{working}
-use Rattle.scale.specs.declared.law.Law.{Law}
-use Rattle.scale.specs.Names.{spelled}
-use Rattle.scale.specs.Subranges.{lawNamed}
+use Rattle.law.specs.declared.laws.Law.{Law}
+use Rattle.law.specs.Names.{spelled}
+use Rattle.law.specs.Subranges.{lawNamed}
 use Rattle.certificate.specs.declared.record.Record.{Record}
-use Rattle.certificate.specs.Certificate as certificate
-use Rattle.certificate.specs.Record.{recordAnswer}
-use Rattle.reading.specs.Reading as reading
+use Rattle.law.specs.Answers.{LawAndStep, noStep}
+use Rattle.deviation.specs.declared.places.Places.{Places}
+use Rattle.certificate.specs.declared.soundness.Given.{Given}
+use Rattle.certificate.specs.Certificate.{LawAndPlaces, noPlaces}
+use Rattle.certificate.specs.Record.{recordRule}
+use Rattle.reading.specs.Reading.{readGiven}
 
 -- What is read: a step, or the number given instead.
 pub data Reads : Type 0 where
@@ -20,42 +24,48 @@ pub data Reads : Type 0 where
   number : ℕ → Reads
 
 -- The outcome, by a law where there is one.
-abbrev pub readBy : Option Law → Reads → reading.Outcome
-readBy law (step t) = record { code = 0; law = law; step = t }
-readBy law (number n) = reading.refused n
+abbrev pub readBy : Option Law → Reads → Outcome LawAndStep
+readBy law (step t) = answered (record { law = law; step = t })
+readBy law (number n) = refused noStep n
 
--- What a record gives: the five places of a certificate, or the number given instead.
+-- What a record gives: the places of a certificate, or the number given instead.
 pub data Gives : Type 0 where
-  places : ℤ → ℤ → ℤ → ℤ → ℕ → Gives
+  places : Places → Gives
   number : ℕ → Gives
 
-abbrev pub givenBy : Option Law → Gives → certificate.Outcome
-givenBy law (places a b c d wal) = record { code = 0; law = law; a = a; b = b; c = c; d = d; wal = wal }
-givenBy law (number n) = certificate.refused n
+abbrev pub givenBy : Option Law → Gives → Outcome LawAndPlaces
+givenBy law (places p) = answered (record { law = law; places = p })
+givenBy law (number n) = refused noPlaces n
+
+-- a, b, c, d and W(Al)
+abbrev pub placesOf : ℤ → ℤ → ℤ → ℤ → ℕ → Places
+placesOf a b c d wal = record { a = a; b = b; c = c; d = d; wal = record { 0 = wal } }
 
 pub data Card : Type 0 where
   -- a step, and the working value of the reference function there
   works : ℤ → ℤ → Card
-  -- the name of a law, a, b, c, d and W(Al), a ratio W, and what it reads
-  reads : ℕ → ℤ → ℤ → ℤ → ℤ → ℕ → ℕ → Reads → Card
+  -- a certificate as it is given, a ratio W, and what it reads
+  reads : Given → ℕ → Reads → Card
   -- a record, and what it gives
   gives : Record → Gives → Card
 
 -- What a card says of the definitions. A card of a ratio speaks of every R and R0 that have it, and its reading names the law that the card names.
 abbrev pub Holds : Card → Type 0
 Holds (works t value) = working t ≡ value
-Holds (reads name a b c d wal w x) =
-    (r r0 : ℕ) → ratioAnswer r r0 ≡ record { code = 0; ratio = w } → reading.ReadNamed name a b c d wal r r0 (readBy (lawNamed name) x)
-Holds (gives ratios x) = recordAnswer ratios ≡ givenBy (lawNamed (ratios .subrange .0)) x
+Holds (reads k w x) = (r r0 : ℕ) → Follows (ratioRule r r0) (answered w) → Follows (readGiven k r r0) (readBy (lawNamed (k .law .0)) x)
+Holds (gives ratios x) = Follows (recordRule ratios) (givenBy (lawNamed (ratios .subrange .0)) x)
 
 -- ---- the table
 
 -- by the ag certificate of zeros whose W(Al) is 3.3760086, and by the curve
+abbrev zeros : ℕ → Places
+zeros wal = placesOf (pos 0) (pos 0) (pos 0) (pos 0) wal
+
 abbrev zeroAg : ℕ → Reads → Card
-zeroAg = reads (spelled "ag") (pos 0) (pos 0) (pos 0) (pos 0) 3_376_008_600
+zeroAg = reads (record { law = record { 0 = spelled "ag" }; places = zeros 3_376_008_600 })
 
 abbrev onCurve : ℕ → Reads → Card
-onCurve = reads (spelled "curve") (pos 0) (pos 0) (pos 0) (pos 0) 0
+onCurve = reads (record { law = record { 0 = spelled "curve" }; places = zeros 0 })
 
 -- a record with gallium and indium alone, and a certificate with a alone
 abbrev low : ℕ → ℕ → ℕ → Gives → Card
@@ -73,7 +83,7 @@ low name gallium indium =
     })
 
 abbrev onlyA : ℤ → Gives
-onlyA a = places a (pos 0) (pos 0) (pos 0) 0
+onlyA a = places (placesOf a (pos 0) (pos 0) (pos 0) 0)
 
 -- Cards 1 to 8, line by line: one line for each of cards 1, 2 and 6, two for 3, 4, 5 and 8, three for 7, whose last has no star and is proved too.
 abbrev pub cards : List Card

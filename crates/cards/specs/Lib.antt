@@ -1,1 +1,2 @@
+-- The definitions of `cards`.
 pub mod Cards

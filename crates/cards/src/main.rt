@@ -4,26 +4,27 @@ ghost use lib.IntN.{pos};
 ghost use lib.Signed.{_≤ℤ_};
 use certificate::Certificate;
 use certificate::CertificateAnswer;
+use certificate::Given;
 use certificate::Record;
+use deviation::Places;
 use draws::say_law;
 use evidence::ONE;
 use evidence::say;
 use evidence::say_natural;
 use evidence::say_refused;
 use evidence::say_signed;
+use law::Ag;
+use law::CURVE;
+use law::Ga;
+use law::In;
+use law::Name;
 use quantity::Celsius;
 use quantity::Nanoohm;
 use quantity::Ratio;
 use quantity::RatioAnswer;
-use reading::JudgementAnswer;
+use reading::ForwardAnswer;
 use reading::ReadingAnswer;
-use scale::Ag;
-use scale::CURVE;
-use scale::Ga;
-use scale::In;
-use scale::Law;
-use scale::Name;
-use scale::Subrange;
+use reading::ToleranceAnswer;
 
 // R0 is one ohm, so that R in nanoohms is the ratio in its units.
 const OHM: u64 = 1_000_000_000;
@@ -56,7 +57,17 @@ fn reading_said(answer: ReadingAnswer) {
 
 // By the certificate of zeros with its W(Al), which only ag has.
 fn reads(card: &[u8], law: u64, wal: u64, w: u64) {
-    let answer = reading::read(Name(law), 0, 0, 0, 0, Ratio(wal), Nanoohm(w), Nanoohm(OHM));
+    let k = Given {
+        law: Name(law),
+        places: Places {
+            a: 0,
+            b: 0,
+            c: 0,
+            d: 0,
+            wal: Ratio(wal),
+        },
+    };
+    let answer = reading::read(k, Nanoohm(w), Nanoohm(OHM));
     say(card);
     say(b" 0 0 0 0");
     say_natural(wal, ONE);
@@ -79,12 +90,13 @@ fn by_curve(card: &[u8], w: u64) {
 
 fn places(k: Certificate) {
     let law = k.law;
-    let wal = k.wal;
+    let p = k.places;
+    let wal = p.wal;
     say_law(law);
-    say_signed(k.a, ONE);
-    say_signed(k.b, ONE);
-    say_signed(k.c, ONE);
-    say_signed(k.d, ONE);
+    say_signed(p.a, ONE);
+    say_signed(p.b, ONE);
+    say_signed(p.c, ONE);
+    say_signed(p.d, ONE);
     say_natural(wal.0, ONE);
 }
 
@@ -137,13 +149,16 @@ fn divides(card: &[u8], r: u64, r0: u64) {
 
 // A resistance over one ohm that reads the step: the ratio one unit above that of the step, which is rounded down.
 fn resistance_at(step: i64) -> u64 {
-    match curve::ratio_at(Celsius(step)) {
-        RatioAnswer::Ratio(w) => w.0 % 10_000_000_000 + 1,
-        RatioAnswer::Refused(_) => 0,
+    match curve::forward(Celsius(step)) {
+        ForwardAnswer::At(forward) => {
+            let w = forward.ratio;
+            w.0 % 10_000_000_000 + 1
+        }
+        ForwardAnswer::Refused(_) => 0,
     }
 }
 
-fn verdict(passes: bool) {
+fn passes_said(passes: bool) {
     if passes {
         say(b" pass");
         return;
@@ -151,25 +166,25 @@ fn verdict(passes: bool) {
     say(b" fail");
 }
 
-fn judgement_said(answer: JudgementAnswer) {
+fn result_said(answer: ToleranceAnswer) {
     match answer {
-        JudgementAnswer::Judged(judgement) => {
-            verdict(judgement.passes);
-            say_signed(judgement.error, ONE);
+        ToleranceAnswer::Tested(result) => {
+            passes_said(result.passes);
+            say_signed(result.error, ONE);
         }
-        JudgementAnswer::Refused(why) => say_refused(why.number() as u64),
+        ToleranceAnswer::Refused(why) => say_refused(why.number() as u64),
     }
 }
 
 // Class A, at a bath, with a resistance that reads the step.
 fn judges(bath: i64, step: i64) {
     let r = resistance_at(step);
-    let answer = reading::judge(b'A', Celsius(bath), Nanoohm(r), Nanoohm(OHM));
+    let answer = reading::tolerance_test(b'A', Celsius(bath), Nanoohm(r), Nanoohm(OHM));
     say(b"card 10 tolerance A bath");
     say_signed(bath, ONE);
     say(b" ratio");
     say_natural(r, ONE);
-    judgement_said(answer);
+    result_said(answer);
     say(b"\n");
 }
 

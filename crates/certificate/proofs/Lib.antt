@@ -1,4 +1,5 @@
+-- What is proved of the definitions of `certificate`.
 pub mod Records
+pub mod Sound
 pub mod Made
 pub mod Answers
-pub mod Unique

@@ -1,73 +1,126 @@
--- Every certificate that a record yields is sound.
-use mathlib.Core.Path.{_≡_, refl, ap, subst}
-use mathlib.Core.Bool.{Bool, true, false, _||_}
-use mathlib.Core.Option.{Option, none, some, Option·getD}
+-- Every certificate that a record yields is sound, and accepted where it is given.
+use mathlib.Core.Path.{_≡_, refl, sym, ap, subst}
+use mathlib.Core.Bool.{Bool, true, false, false≢true, _&&_, _||_, not}
+use mathlib.Core.List.{List, [], _∷_, map}
+use mathlib.Core.Option.{Option, none, some}
 use Prim.Native.Nat.{ℕ, suc, _≤_}
 use native.Mathlib.Omega.{arith}
 use borrow.Author.Tests.{le-leb}
-use lib.Dec.{leb}
+use lib.Dec.{leb, eqb}
 use lib.IntN.{ℤ, natAbs}
+use lib.ListN.{length}
+use Rattle.whole.specs.Any.{any}
 use Rattle.whole.specs.Choice.{if_then_else_}
-use Rattle.scale.specs.declared.cell.Cell.the-variants as cell
-use Rattle.scale.specs.declared.subrange.Subrange.{Subrange}
-use Rattle.scale.specs.declared.subrange.Subrange.the-variants.{Ga, In, Sn, Zn, Al, Ag}
-use Rattle.scale.specs.declared.law.Law.the-variants.{Curve}
-use Rattle.certificate.specs.declared.record.Record.{Record}
-use Rattle.certificate.specs.declared.certificate.Certificate.{Certificate}
-use Rattle.scale.specs.Subranges.{cells, subrangeNamed}
-use Rattle.fit.specs.Fit.{beyond}
-use Rattle.scale.specs.Deviation.{largestCoefficient}
-use Rattle.certificate.specs.Certificate.{Outcome, refused, answered, sound}
-use Rattle.certificate.specs.Record.{ratioAbove, cellMissing, purityCellMissing, impure, deviates, fitted, made, tested, recordFor}
-use Rattle.certificate.specs.Promised.{MadeSound}
+use Rattle.whole.proofs.Any.{Member, of-any, or-false}
+use Rattle.quantity.specs.Outcomes.{Outcome, answered, _gives_, Follows, ifNamed}
+use Rattle.quantity.proofs.Outcomes.{answer-follows, passed}
+use Rattle.law.specs.declared.cell.Cell.{Cell}
+use Rattle.law.specs.declared.cell.Cell.the-variants.{Hg, Ga, In, Sn, Zn, Al, Ag}
+use Rattle.law.specs.declared.subrange.Subrange.{Subrange}
+use Rattle.law.specs.declared.laws.Law.{Law}
+use Rattle.law.specs.Cells.{Wr}
+use Rattle.law.specs.Subranges.{carried, cells, coefficients, toSilver, lawNamed, lawName, subrangeNamed}
+use Rattle.law.proofs.Subranges.{every-subrange, one-to-four, names-law}
+use Rattle.deviation.specs.declared.places.Places.{Places}
+use Rattle.deviation.specs.Limits.{within, largestCoefficient}
+use Rattle.fit.specs.declared.Point.{Point}
+use Rattle.fit.specs.Fit.{fit, beyond}
 use Rattle.fit.proofs.Within.{all-within}
+use Rattle.certificate.specs.declared.record.Record.{Record}
+use Rattle.certificate.specs.declared.soundness.Certificate.{Certificate}
+use Rattle.certificate.specs.Certificate.{placeKept, sound, givenOf, LawAndPlaces, held, noPlaces, givenBy}
+use Rattle.certificate.specs.Record.{ratio, ratioAbove, cellMissing, purityCellMissing, impure, deviates, point, fitted, aluminiumRatio, made, recordOf}
+use Rattle.certificate.specs.Promised.{MadeSound, MadeAccepted}
 use Rattle.certificate.proofs.Records.{all-measured, keeps-limit}
+use Rattle.certificate.proofs.Answers.{held-unique}
+
+-- ---- the coefficients, by the number of cells
+abbrev placesKept : ℕ → Places → Bool
+placesKept used k = placeKept used 0 (k .a) && placeKept used 1 (k .b) && placeKept used 2 (k .c) && placeKept used 3 (k .d)
+
+small : (v : ℤ) → natAbs v ≤ largestCoefficient → leb (natAbs v) largestCoefficient ≡ true
+small v h = le-leb (natAbs v) largestCoefficient h
+
+-- what is not used is 0, and what is used is not beyond its limit
+fit-kept : (ps : List Point) → length ps ≤ 4 → beyond (fit ps) ≡ false → placesKept (length ps) (fit ps) ≡ true
+fit-kept [] h b = refl
+fit-kept (p₁ ∷ []) h b = rw (small _ (all-within _ b .a))
+fit-kept (p₁ ∷ p₂ ∷ []) h b = rw (small _ (all-within _ b .a), small _ (all-within _ b .b))
+fit-kept (p₁ ∷ p₂ ∷ p₃ ∷ []) h b = rw (small _ (all-within _ b .a), small _ (all-within _ b .b), small _ (all-within _ b .c))
+fit-kept (p₁ ∷ p₂ ∷ p₃ ∷ p₄ ∷ []) h b =
+    rw (small _ (all-within _ b .a), small _ (all-within _ b .b), small _ (all-within _ b .c), small _ (all-within _ b .d))
+fit-kept (p₁ ∷ p₂ ∷ p₃ ∷ p₄ ∷ p₅ ∷ ps) h b = absurd (omega arith)
+
+length-map : (f : Cell → Point) (ps : List Cell) → length (map f ps) ≡ length ps
+length-map f [] = refl
+length-map f (p ∷ ps) = ap suc (length-map f ps)
+
+-- ---- W(Al): a subrange that reaches silver needs aluminium
+abbrev isAluminium : Cell → Bool
+isAluminium Hg = false
+isAluminium Ga = false
+isAluminium In = false
+isAluminium Sn = false
+isAluminium Zn = false
+isAluminium Al = true
+isAluminium Ag = false
+
+aluminium-is : (p : Cell) → isAluminium p ≡ true → p ≡ Al
+aluminium-is Hg e = absurd (false≢true e)
+aluminium-is Ga e = absurd (false≢true e)
+aluminium-is In e = absurd (false≢true e)
+aluminium-is Sn e = absurd (false≢true e)
+aluminium-is Zn e = absurd (false≢true e)
+aluminium-is Al e = refl
+aluminium-is Ag e = absurd (false≢true e)
+
+or-true : (a b : Bool) → a ≡ true → (not a || b) ≡ true → b ≡ true
+or-true true b p e = e
+or-true false b p e = absurd (false≢true p)
+
+needs-aluminium : (s : Subrange) → toSilver (carried s .form) ≡ true → Member Al (cells s)
+needs-aluminium s e =
+    let w = of-any isAluminium (cells s) (or-true (toSilver (carried s .form)) (any isAluminium (cells s)) e (every-subrange (λ (s : Subrange). not (toSilver (carried s .form)) || any isAluminium (cells s)) refl s)) in
+    subst (λ (p : Cell). Member p (cells s)) (aluminium-is (w .0) (w .2)) (w .1)
 
 -- ---- a certificate whose tests were passed
 module _ (ratios : Record) (above : ratioAbove ratios ≡ false) (kept : deviates ratios ≡ false) where
-  small : (v : ℤ) → natAbs v ≤ largestCoefficient → leb (natAbs v) largestCoefficient ≡ true
-  small v h = le-leb (natAbs v) largestCoefficient h
+  aluminium-kept : (s : Subrange) → cellMissing ratios (cells s) ≡ false → (if toSilver (carried s .form) then within (Wr Al) (aluminiumRatio s ratios) else eqb (aluminiumRatio s ratios) 0) ≡ true
+  aluminium-kept s m = by (toSilver (carried s .form)) refl
+    where
+      by : (t : Bool) → toSilver (carried s .form) ≡ t → (if t then within (Wr Al) (if t then ratio ratios Al else 0) else eqb (if t then ratio ratios Al else 0) 0) ≡ true
+      by true e = keeps-limit ratios above kept Al (all-measured ratios (cells s) m Al (needs-aluminium s e))
+      by false e = refl
 
-  made-sound : (s : Subrange) → cellMissing ratios (cells s) ≡ false → beyond (fitted ratios (cells s)) ≡ false → sound (made s ratios (fitted ratios (cells s))) ≡ true
+  made-sound : (s : Subrange) → cellMissing ratios (cells s) ≡ false → beyond (fitted ratios (cells s)) ≡ false → sound (made s ratios) ≡ true
   unfolding fitted
-  made-sound Ga m b = rw (small _ (all-within _ b .a))
-  made-sound In m b = rw (small _ (all-within _ b .a))
-  made-sound Sn m b = rw (small _ (all-within _ b .a), small _ (all-within _ b .b))
-  made-sound Zn m b = rw (small _ (all-within _ b .a), small _ (all-within _ b .b))
-  made-sound Al m b = rw (small _ (all-within _ b .a), small _ (all-within _ b .b), small _ (all-within _ b .c))
-  made-sound Ag m b =
-      rw (small _ (all-within _ b .a), small _ (all-within _ b .b), small _ (all-within _ b .c), small _ (all-within _ b .d), keeps-limit ratios above kept cell.Al (all-measured ratios (cells Ag) m .1 .1 .0))
+  made-sound s m b =
+      let few : length (map (point ratios) (cells s)) ≤ 4 = rw (length-map (point ratios) (cells s)) (one-to-four s .1) in
+      let places : placesKept (coefficients s) (fit (map (point ratios) (cells s))) ≡ true = rw (length-map (point ratios) (cells s)) at (fit-kept (map (point ratios) (cells s)) few b) in
+      rw (places, aluminium-kept s m)
 
 -- ---- what an answered record says
-abbrev held : Outcome → Certificate
-held o = record { law = Option·getD (o .law) Curve; a = o .a; b = o .b; c = o .c; d = o .d; wal = record { 0 = o .wal } }
-
-pub answered-unique : (k k′ : Certificate) → answered k ≡ answered k′ → k ≡ k′
-answered-unique k k′ e = ap held e
-
-pub not-refused : (n : ℕ) (k : Certificate) → refused (suc n) ≡ answered k → ⊥
-not-refused n k e = let z : suc n ≡ 0 = ap (λ (o : Outcome). o .code) e in omega arith
-
-tested-sound : (s : Subrange) (ratios : Record) (k : Certificate) → tested s ratios ≡ answered k → sound k ≡ true
-tested-sound s ratios k =
-    by (ratioAbove ratios) refl (cellMissing ratios (cells s)) refl (purityCellMissing ratios) (impure s ratios) (deviates ratios) refl (beyond (fitted ratios (cells s))) refl
-  where
-    kept : Certificate
-    kept = made s ratios (fitted ratios (cells s))
-
-    by : (a : Bool) → ratioAbove ratios ≡ a → (m : Bool) → cellMissing ratios (cells s) ≡ m → (p i d : Bool) → deviates ratios ≡ d → (b : Bool) → beyond (fitted ratios (cells s)) ≡ b → (if a then refused 2 else if m then refused 4 else if p then refused 5 else if i then refused 6 else if d || b then refused 7 else answered kept) ≡ answered k → sound k ≡ true
-    by true a m m′ p i d d′ b b′ e = absurd (not-refused 1 k e)
-    by false a true m′ p i d d′ b b′ e = absurd (not-refused 3 k e)
-    by false a false m′ true i d d′ b b′ e = absurd (not-refused 4 k e)
-    by false a false m′ false true d d′ b b′ e = absurd (not-refused 5 k e)
-    by false a false m′ false false true d′ b b′ e = absurd (not-refused 6 k e)
-    by false a false m′ false false false d′ true b′ e = absurd (not-refused 6 k e)
-    by false a false m′ false false false d′ false b′ e =
-        subst (λ (k : Certificate). sound k ≡ true) (answered-unique kept k e) (made-sound ratios a d′ s m′ b′)
+tested-sound : (s : Subrange) (ratios : Record) (k : Certificate) → Follows (recordOf s ratios) (answered (held k)) → sound k ≡ true
+tested-sound s ratios k h =
+    let a = answer-follows (recordOf s ratios) (answered (held k)) refl h in
+    let beyondLimit = deviates ratios || beyond (fitted ratios (cells s)) in
+    let not-2 = passed (ratioAbove ratios) 2 (cellMissing ratios (cells s) gives 4 ∷ purityCellMissing ratios gives 5 ∷ impure s ratios gives 6 ∷ beyondLimit gives 7 ∷ []) (omega arith) (a .0) in
+    let not-4 = passed (cellMissing ratios (cells s)) 4 (purityCellMissing ratios gives 5 ∷ impure s ratios gives 6 ∷ beyondLimit gives 7 ∷ []) (omega arith) (not-2 .1) in
+    let not-5 = passed (purityCellMissing ratios) 5 (impure s ratios gives 6 ∷ beyondLimit gives 7 ∷ []) (omega arith) (not-4 .1) in
+    let not-6 = passed (impure s ratios) 6 (beyondLimit gives 7 ∷ []) (omega arith) (not-5 .1) in
+    let not-7 = or-false (deviates ratios) (beyond (fitted ratios (cells s))) (passed beyondLimit 7 [] (omega arith) (not-6 .1) .0) in
+    subst (λ (k : Certificate). sound k ≡ true) (held-unique (made s ratios) k (sym (a .1))) (made-sound ratios (not-2 .0) (not-7 .0) s (not-4 .0) (not-7 .1))
 
 pub record-sound : MadeSound
 record-sound ratios k = by (subrangeNamed (ratios .subrange .0))
   where
-    by : (o : Option Subrange) → recordFor o ratios ≡ answered k → sound k ≡ true
-    by none e = absurd (not-refused 2 k e)
-    by (some s) e = tested-sound s ratios k e
+    by : (named : Option Subrange) → Follows (ifNamed noPlaces named (λ s. recordOf s ratios)) (answered (held k)) → sound k ≡ true
+    by none e = absurd (let z : _≡_ {A = ℕ} 0 3 = ap (λ (o : Outcome LawAndPlaces). o .code) e in omega arith)
+    by (some s) h = tested-sound s ratios k h
+
+-- a sound certificate is accepted
+sound-accepted : (law : Law) (k : Certificate) → k .law ≡ law → sound k ≡ true → (named : Option Law) → named ≡ some law → Follows (ifNamed noPlaces named (λ law. givenBy law (givenOf k))) (answered (held k))
+sound-accepted law k is e named n = rw (n, ← is, e) (refl, refl)
+
+pub record-accepted : MadeAccepted
+record-accepted ratios k h = sound-accepted (k .law) k refl (record-sound ratios k h) (lawNamed (lawName (k .law))) (names-law (k .law))

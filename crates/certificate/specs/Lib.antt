@@ -1,3 +1,4 @@
+-- The definitions of `certificate`.
 pub mod Certificate
 pub mod Record
 pub mod Promised

@@ -1,8 +1,8 @@
 // Certificates: from a record of cell ratios, or given and found sound.
-mod certificate;
 mod record;
+mod soundness;
 
-pub use certificate::Certificate;
-pub use certificate::CertificateAnswer;
-pub use certificate::given;
 pub use record::Record;
+pub use soundness::Certificate;
+pub use soundness::CertificateAnswer;
+pub use soundness::Given;

@@ -4,33 +4,35 @@ ghost use mathlib.Core.Bool.{not, _&&_, false};
 ghost use mathlib.Core.List.{map};
 ghost use lib.Dec.{ltb};
 ghost use Rattle.quantity.specs.Quantities.{largestRatio};
-ghost use Rattle.scale.specs.Subranges.{cells};
-ghost use Rattle.scale.specs.Listed.{listed};
-ghost use Rattle.scale.specs.Deviation.{within as withinLimit};
+ghost use Rattle.law.specs.Subranges.{cells};
+ghost use Rattle.law.specs.Listed.{listed};
+ghost use Rattle.law.specs.Cells.{Wr};
+ghost use Rattle.deviation.specs.Limits.{within as withinLimit};
 ghost use Rattle.fit.specs.Room.{Roomy, StandFor};
+ghost use Rattle.quantity.specs.Outcomes.{Follows};
 ghost use Rattle.certificate.specs.Certificate.{stated};
-ghost use Rattle.certificate.specs.Record.{ratio as ratioOf, measured as measuredBy, ratioAbove, cellMissing, purityCellMissing, impure as impureBy, deviates as deviatesBy, point as pointOf, fitted as fittedBy, aluminiumRatio, tested as testedFor, recordAnswer};
-use crate::certificate::Certificate;
-use crate::certificate::CertificateAnswer;
-use fit::Coefficients;
+ghost use Rattle.certificate.specs.Record.{ratio as ratioOf, measured as measuredBy, ratioAbove, cellMissing, purityCellMissing, impure as impureBy, deviates as deviatesBy, point as pointOf, fitted as fittedBy, aluminiumRatio, recordOf, recordRule};
+use crate::soundness::Certificate;
+use crate::soundness::CertificateAnswer;
+use deviation::Places;
+use deviation::cell_deviation;
+use deviation::offset;
+use deviation::within;
 use fit::Point;
 use fit::beyond;
 use fit::of_four;
 use fit::of_one;
 use fit::of_three;
 use fit::of_two;
+use law::Cell;
+use law::Cells;
+use law::Law;
+use law::Name;
+use law::NamedSubrange;
+use law::Subrange;
 use purity::is_pure;
 use quantity::Ratio;
 use quantity::Refusal;
-use scale::Cell;
-use scale::Cells;
-use scale::Law;
-use scale::Name;
-use scale::NamedSubrange;
-use scale::Subrange;
-use scale::cell_deviation;
-use scale::offset;
-use scale::within;
 
 // The subrange by its name, and a ratio for each cell, 0 where it was not measured.
 pub struct Record {
@@ -51,17 +53,17 @@ fn above(w: Ratio) -> bool
 }
 
 impl Record {
-    fn ratio(self, cell: Cell) -> u64
-        ensures { λ w. ⌜ w ≡ ratioOf self cell ⌝ }
+    fn ratio(self, cell: Cell) -> Ratio
+        ensures { λ w. ⌜ w .0 ≡ ratioOf self cell ⌝ }
     {
         match cell {
-            Cell::Hg => self.mercury.0,
-            Cell::Ga => self.gallium.0,
-            Cell::In => self.indium.0,
-            Cell::Sn => self.tin.0,
-            Cell::Zn => self.zinc.0,
-            Cell::Al => self.aluminium.0,
-            Cell::Ag => self.silver.0,
+            Cell::Hg => self.mercury,
+            Cell::Ga => self.gallium,
+            Cell::In => self.indium,
+            Cell::Sn => self.tin,
+            Cell::Zn => self.zinc,
+            Cell::Al => self.aluminium,
+            Cell::Ag => self.silver,
         }
     }
 
@@ -69,7 +71,7 @@ impl Record {
     fn aluminium_ratio(self, subrange: Subrange) -> Ratio
         ensures { λ w. ⌜ w .0 ≡ aluminiumRatio subrange self ⌝ }
     {
-        if subrange.reaches_silver() {
+        if subrange.form().to_silver() {
             return self.aluminium;
         }
         Ratio(0)
@@ -78,7 +80,8 @@ impl Record {
     fn measured(self, cell: Cell) -> bool
         ensures { λ b. ⌜ b ≡ measuredBy self cell ⌝ }
     {
-        0 < self.ratio(cell)
+        let w = self.ratio(cell);
+        0 < w.0
     }
 
     // Whether any ratio is above 4.4.
@@ -119,7 +122,7 @@ impl Record {
     fn impure(self, subrange: Subrange) -> bool
         ensures { λ b. ⌜ b ≡ impureBy subrange self ⌝ }
     {
-        let to_silver = subrange.reaches_silver();
+        let to_silver = subrange.form().to_silver();
         let mercury = self.mercury;
         let gallium = self.gallium;
         let silver = self.silver;
@@ -128,9 +131,9 @@ impl Record {
 
     // Whether a cell was measured and its deviation is beyond its limit.
     fn cell_deviates(self, cell: Cell) -> bool
-        ensures { λ b. ⌜ b ≡ (measuredBy self cell && not (withinLimit cell (ratioOf self cell))) ⌝ }
+        ensures { λ b. ⌜ b ≡ (measuredBy self cell && not (withinLimit (Wr cell) (ratioOf self cell))) ⌝ }
     {
-        self.measured(cell) & !within(cell, self.ratio(cell))
+        self.measured(cell) & !within(cell.reference(), self.ratio(cell))
     }
 
     fn deviates(self) -> bool
@@ -152,12 +155,12 @@ impl Record {
         let w = self.ratio(cell);
         Point {
             x: offset(w),
-            delta: cell_deviation(cell, w),
+            delta: cell_deviation(cell.reference(), w),
         }
     }
 
     // The coefficients from the used cells.
-    fn fitted(self, used: Cells) -> Coefficients
+    fn fitted(self, used: Cells) -> Places
         requires { ⌜ (ratioAbove self ≡ false) × Roomy (map (pointOf self) (listed used)) ⌝ }
         ensures { λ k. ⌜ StandFor k (fittedBy self (listed used)) ⌝ }
     {
@@ -177,24 +180,27 @@ impl Record {
     // Where every test but the last is passed: refused for a coefficient, or the certificate.
     fn certified(self, subrange: Subrange) -> CertificateAnswer
         requires { ⌜ (ratioAbove self ≡ false) × (cellMissing self (cells subrange) ≡ false) × (purityCellMissing self ≡ false) × (impureBy subrange self ≡ false) × (deviatesBy self ≡ false) ⌝ }
-        ensures { λ r. ⌜ stated r ≡ testedFor subrange self ⌝ }
+        ensures { λ r. ⌜ Follows (recordOf subrange self) (stated r) ⌝ }
     {
         let k = self.fitted(subrange.cells());
         if beyond(k) {
             return CertificateAnswer::Refused(Refusal::BeyondLimit);
         }
+        let wal = self.aluminium_ratio(subrange);
         CertificateAnswer::Certificate(Certificate {
             law: Law::Scale(subrange),
-            a: k.a,
-            b: k.b,
-            c: k.c,
-            d: k.d,
-            wal: self.aluminium_ratio(subrange),
+            places: Places {
+                a: k.a,
+                b: k.b,
+                c: k.c,
+                d: k.d,
+                wal,
+            },
         })
     }
 
     fn tested(self, subrange: Subrange) -> CertificateAnswer
-        ensures { λ r. ⌜ stated r ≡ testedFor subrange self ⌝ }
+        ensures { λ r. ⌜ Follows (recordOf subrange self) (stated r) ⌝ }
     {
         let above = self.ratio_above();
         let missing = self.cell_missing(subrange.cells());
@@ -218,7 +224,7 @@ impl Record {
 
     // The certificate that the record yields, or why there is none.
     pub fn certify(self) -> CertificateAnswer
-        ensures { λ r. ⌜ stated r ≡ recordAnswer self ⌝ }
+        ensures { λ r. ⌜ Follows (recordRule self) (stated r) ⌝ }
     {
         match Subrange::named(self.subrange) {
             NamedSubrange::Unknown => CertificateAnswer::Refused(Refusal::NameUnknown),

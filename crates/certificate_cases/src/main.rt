@@ -10,6 +10,7 @@ use draws::around;
 use draws::drawn_aluminium;
 use draws::drawn_place;
 use draws::edge;
+use draws::given_by;
 use draws::given_name;
 use draws::law_name;
 use draws::law_text;
@@ -20,9 +21,9 @@ use evidence::Drawn;
 use evidence::Generator;
 use evidence::Report;
 use evidence::Written;
+use law::Cell;
+use law::Name;
 use quantity::Ratio;
-use scale::Cell;
-use scale::Name;
 
 // ---- cells, in the order of the scope document's table
 
@@ -206,11 +207,12 @@ fn record_of(name: u64, w: [u64; 7]) -> Record {
 fn answer_text(line: &mut [u8], from: usize, answer: CertificateAnswer) -> usize {
     match answer {
         CertificateAnswer::Certificate(k) => {
-            let wal = k.wal;
+            let p = k.places;
+            let wal = p.wal;
             let law = k.law;
             let mut at = evidence::text(line, from, b" certificate");
             at = law_text(line, at, law);
-            at = places_text(line, at, k.a, k.b, k.c, k.d, wal.0);
+            at = places_text(line, at, p.a, p.b, p.c, p.d, wal.0);
             evidence::text(line, at, b"\n")
         }
         CertificateAnswer::Refused(why) => {
@@ -299,14 +301,8 @@ fn given_case(g: Generator, line: &mut [u8]) -> Written {
     let wal = drawn_aluminium(g6);
     let g7 = wal.generator;
     let name = given_name(law.value, far.value);
-    let answer = certificate::given(
-        Name(name),
-        a.value,
-        b.value,
-        c.value,
-        d.value,
-        Ratio(wal.value),
-    );
+    let k = given_by(name, a.value, b.value, c.value, d.value, wal.value);
+    let answer = k.accept();
     let mut at = evidence::text(line, 0, b"given");
     at = name_text(line, at, law.value, far.value);
     at = places_text(line, at, a.value, b.value, c.value, d.value, wal.value);

@@ -12,13 +12,12 @@ use Rattle.whole.proofs.Ring.{strictly}
 use Rattle.whole.proofs.Rounding.{floor-parts}
 use Rattle.whole.proofs.Largest.{largest-by-next}
 use Rattle.curve.specs.Curve.{exact, units, first, last, pastLast}
-use Rattle.curve.specs.Reading.{Read}
-use Rattle.curve.specs.Promised.{ForwardReadsBack}
+use Rattle.curve.specs.Promised.{ReadsAs, ForwardReadsBack}
 use Rattle.curve.proofs.Rising.{climb, one-up, not-falling}
 use Rattle.curve.proofs.Ends.{at-first, within-limit}
 use Rattle.curve.proofs.Outcomes.{reads-step}
 
-pub reads : (w : ℕ) (step : ℤ) → first ≤ℤ step → step ≤ℤ last → exact step ≤ℤ units w → units w <ℤ exact (step +ℤ pos 1) → Read w (record { code = 0; step = step })
+pub reads : (w : ℕ) (step : ℤ) → first ≤ℤ step → step ≤ℤ last → exact step ≤ℤ units w → units w <ℤ exact (step +ℤ pos 1) → ReadsAs w step
 reads w step p q n a =
     let s = add-parts step (pos 1) in
     let lowest = not-falling first step (omega ints) p (omega ints) in
@@ -36,7 +35,7 @@ module _ (step : ℤ) (w : ℕ) (e : pos w ≡ floor (exact step) (10 ^ 22)) whe
   unfolding units
   near = omega (ints, floor-parts (exact step) (10 ^ 22) (omega arith), add-parts (units w) (pos (10 ^ 22)))
 
-back-same : (step : ℤ) (w : ℕ) → first ≤ℤ step → step ≤ℤ last → exact step ≡ units w → Read w (record { code = 0; step = step })
+back-same : (step : ℤ) (w : ℕ) → first ≤ℤ step → step ≤ℤ last → exact step ≡ units w → ReadsAs w step
 back-same step w p q e = reads w step p q (omega ints) (omega (ints, one-up step p (omega ints)))
 
 -- the first step's exact ratio has nine decimals
@@ -51,7 +50,7 @@ not-first step w p e f = by (decLt (up first + dn step) (up step + dn first))
         let x : exact step ≡ pos (185_200_800 * 10 ^ 22) = rw s at-first in
         absurd (f (omega (ints, x, floor-parts (exact step) (10 ^ 22) (omega arith))))
 
-back-below : (step : ℤ) (w : ℕ) → first ≤ℤ step → step ≤ℤ last → pos w ≡ floor (exact step) (10 ^ 22) → (exact step ≡ units w → ⊥) → Read w (record { code = 0; step = step -ℤ pos 1 })
+back-below : (step : ℤ) (w : ℕ) → first ≤ℤ step → step ≤ℤ last → pos w ≡ floor (exact step) (10 ^ 22) → (exact step ≡ units w → ⊥) → ReadsAs w (step -ℤ pos 1)
 back-below step w p q e f =
     let h = not-first step w p e f in
     let before = step -ℤ pos 1 in
@@ -65,5 +64,5 @@ back-below step w p q e f =
 
 pub reads-back : ForwardReadsBack
 reads-back step o p q f =
-    let e = (rw (no-lt p, no-lt q) at f) .1 in
-    record { same = back-same step (o .ratio) p q; below = back-below step (o .ratio) p q e }
+    let e = (rw (no-lt p, no-lt q) at f) .1 .1 in
+    record { same = back-same step (o .answer .ratio) p q; below = back-below step (o .answer .ratio) p q e }

@@ -1,3 +1,4 @@
+-- What is proved of the definitions of `curve`.
 pub mod Standard
 pub mod Sides
 pub mod Rising

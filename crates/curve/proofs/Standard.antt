@@ -5,8 +5,8 @@ use Prim.Native.Nat.{_^_}
 use lib.IntN.{ℤ, pos, pow, one, _+ℤ_, _*ℤ_, *ℤ-comm, *ℤ-one}
 use lib.Signed.{ltZ}
 use Rattle.whole.specs.Choice.{if_then_else_}
-use Rattle.polynomial.specs.Fraction.{Fraction, decimal, integer, _+ᶠ_, _-ᶠ_, _*ᶠ_, _^ᶠ_}
-use Rattle.polynomial.proofs.Fractions.{Is, is-itself, is-integer, is-scaled, is-add, is-sub, is-mul, is-power}
+use Rattle.exact.specs.Fraction.{Fraction, decimal, integer, _+ᶠ_, _-ᶠ_, _*ᶠ_, _^ᶠ_}
+use Rattle.exact.proofs.Fractions.{Is, is-itself, is-integer, is-scaled, is-add, is-sub, is-mul, is-power}
 use Rattle.curve.specs.Curve.{A, B, C, standard, quadratic, quartic, exact}
 use Rattle.curve.specs.Promised.{ExactIsStandard}
 

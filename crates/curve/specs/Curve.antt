@@ -3,7 +3,7 @@ use Prim.Native.Nat.{ℕ, _*_, _^_}
 use lib.IntN.{ℤ, pos, negℤ, _+ℤ_, _-ℤ_, _*ℤ_}
 use lib.Signed.{ltZ}
 use Rattle.whole.specs.Choice.{if_then_else_}
-use Rattle.polynomial.specs.Fraction.{Fraction, decimal, integer, _+ᶠ_, _-ᶠ_, _*ᶠ_, _^ᶠ_}
+use Rattle.exact.specs.Fraction.{Fraction, decimal, integer, _+ᶠ_, _-ᶠ_, _*ᶠ_, _^ᶠ_}
 
 -- A = 3.9083·10^-3
 abbrev pub A : Fraction

@@ -1,6 +1,6 @@
+-- The definitions of `curve`.
 pub mod Curve
-pub mod Reading
-pub mod Forward
+pub mod Ways
 pub mod Tolerance
 pub mod Promised
 pub mod Places

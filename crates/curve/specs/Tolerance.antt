@@ -1,18 +1,25 @@
--- The tolerance classes of IEC 60751.
+-- The tolerance classes of IEC 60751, and the tolerance test.
 use mathlib.Core.Path.{_≡_}
 use mathlib.Core.Bool.{Bool, false}
+use mathlib.Core.List.{_++_}
+use mathlib.Core.Option.{Option, none, some}
 use Prim.Native.Nat.{ℕ, _+_, _*_}
+use Prim.Native.Char.{code}
 use lib.Dec.{eqb, leb}
 use lib.IntN.{ℤ, pos, natAbs, _-ℤ_}
-use lib.Signed.{ltZ}
 use Rattle.whole.specs.Choice.{if_then_else_}
+use Rattle.quantity.specs.Quantities.{ratioOf}
 use Rattle.quantity.specs.Refusals.{numberOf}
-use Rattle.quantity.specs.StepAnswer as reading
+use Rattle.quantity.specs.Outcomes.{Outcome, answered, refused, Rule, ifNamed}
+use Rattle.quantity.specs.Ratios.{ratioTests}
+use Rattle.law.specs.declared.laws.Law.{Law}
+use Rattle.law.specs.declared.laws.Law.the-variants.{Curve}
+use Rattle.law.specs.Ranges.{valueTests, stepTests}
 use Rattle.curve.specs.declared.tolerance.Class.{Class}
-use Rattle.curve.specs.declared.tolerance.Verdict.{Verdict}
-use Rattle.curve.specs.declared.tolerance.Verdict.the-variants.{Tested, Refused}
-use Rattle.curve.specs.Curve.{first, last}
-use Rattle.curve.specs.Reading.{ReadBy}
+use Rattle.curve.specs.declared.tolerance.ToleranceAnswer.{ToleranceAnswer}
+use Rattle.curve.specs.declared.tolerance.ToleranceAnswer.the-variants.{Tested, Refused}
+use Rattle.curve.specs.Curve.{units, first, last}
+use Rattle.curve.specs.Ways.{range}
 
 -- A class says its last bath (`top`), the steps of error that it allows at 0 °C (`fixed`), and how many thousandths of a step it allows more for each step
 -- of the bath from there (`slope`).
@@ -25,41 +32,45 @@ classA = record { top = pos 6_500_000; fixed = 1_500; slope = 2 }
 abbrev pub classB : Class
 classB = record { top = last; fixed = 3_000; slope = 5 }
 
+-- A class is named by its letter.
+abbrev pub classNamed : ℕ → Option Class
+classNamed letter =
+    if eqb letter (code "A") then some classA
+    else if eqb letter (code "B") then some classB
+    else none
+
 -- The limit itself passes. Both sides are multiplied by 1000, so that nothing is rounded.
 abbrev pub allows : Class → ℤ → ℤ → Bool
 allows class bath error = leb (1000 * natAbs error) (1000 * class .fixed + class .slope * natAbs bath)
 
--- The outcome as the scope document has it: the number given, 0 where there is an answer, pass or fail, and the signed error, the curve's step less the
--- bath's; a refusal does not pass and has error 0.
-pub record Outcome : Type 0 where
-  pub code : ℕ
+-- What is answered: the law, which is the curve, pass or fail, and the signed error. A refusal names no law, does not pass and has error 0.
+pub record Result : Type 0 where
+  pub law : Option Law
   pub passes : Bool
   pub error : ℤ
 
-abbrev pub refused : ℕ → Outcome
-refused number = record { code = number; passes = false; error = pos 0 }
+abbrev pub noResult : Result
+noResult = record { law = none; passes = false; error = pos 0 }
 
--- What each case stands for.
-abbrev pub stated : Verdict → Outcome
-stated (Tested passes error) = record { code = 0; passes = passes; error = error }
-stated (Refused why) = refused (numberOf why)
+-- What each case of an answer stands for.
+abbrev pub stated : ToleranceAnswer → Outcome Result
+stated (Tested result) = answered (record { law = some (result .law); passes = result .passes; error = result .error })
+stated (Refused why) = refused noResult (numberOf why)
 
--- A reading judged.
-abbrev pub judged : Class → ℤ → reading.Outcome → Outcome
-judged class bath read =
-    if eqb (read .code) 0 then record { code = 0; passes = allows class bath (read .step -ℤ bath); error = read .step -ℤ bath }
-    else refused (read .code)
+-- By a step that was read: the error is that step less the bath's.
+abbrev pub resultOf : Class → ℤ → ℤ → Result
+resultOf class bath step = record { law = some Curve; passes = allows class bath (step -ℤ bath); error = step -ℤ bath }
 
--- 8 or 9: a bath outside the class's range; then what the two resistances read, judged.
-abbrev pub JudgedBy : Class → ℤ → ℕ → ℕ → Outcome → Type 0
-JudgedBy class bath r r0 o =
-    if ltZ bath first then o ≡ refused 8
-    else if ltZ (class .top) bath then o ≡ refused 9
-    else (read : reading.Outcome) × ReadBy r r0 read × (o ≡ judged class bath read)
+-- 8 or 9: a bath outside the class's range; then the reading's 1, 2, 8, 9; else the result of the step that is read.
+abbrev pub testByClass : Class → ℤ → ℕ → ℕ → Rule Result
+testByClass class bath r r0 =
+    let value = units (ratioOf r r0) in
+    record {
+      tests = stepTests first (class .top) bath ++ (ratioTests r r0 ++ valueTests range value);
+      zeros = noResult;
+      Answer = λ a. (step : ℤ) × range .StepOf value step × (a ≡ resultOf class bath step);
+    }
 
--- A class is named by its letter, A or B (65 and 66 in ASCII). 3: any other.
-abbrev pub Judged : ℕ → ℤ → ℕ → ℕ → Outcome → Type 0
-Judged letter bath r r0 o =
-    if eqb letter 65 then JudgedBy classA bath r r0 o
-    else if eqb letter 66 then JudgedBy classB bath r r0 o
-    else o ≡ refused 3
+-- 3: no class has the letter; then the test by its class.
+abbrev pub toleranceTest : ℕ → ℤ → ℕ → ℕ → Rule Result
+toleranceTest letter bath r r0 = ifNamed noResult (classNamed letter) (λ class. testByClass class bath r r0)

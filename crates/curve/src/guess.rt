@@ -1,7 +1,7 @@
 // A guess at the place of a ratio, from which a search starts. Nothing rests on how good it is but the search's length.
 ghost use Prim.Native.Nat.{_≤_};
 ghost use Rattle.quantity.specs.Quantities.{largestRatio};
-use crate::exact::ZERO;
+use crate::comparison::ZERO;
 
 // The ratio 1 in units of 10^-9.
 const UNIT: u64 = 1_000_000_000;

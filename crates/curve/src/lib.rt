@@ -1,12 +1,14 @@
-// The curve of IEC 60751: reading, the way back from a step to its ratio, and the tolerance classes.
-mod exact;
-mod forward;
+// The curve of IEC 60751: reading, forward from a step to its ratio, and the tolerance test. Each answer names the curve as its law.
+mod comparison;
+mod from_ratio;
+mod from_step;
 mod guess;
-mod reading;
+mod search;
 mod tolerance;
 
-pub use forward::ratio_at;
-pub use reading::read;
-pub use reading::read_by;
-pub use tolerance::Verdict;
-pub use tolerance::judge;
+pub use from_ratio::read;
+pub use from_ratio::read_by;
+pub use from_step::forward;
+pub use tolerance::ToleranceAnswer;
+pub use tolerance::ToleranceResult;
+pub use tolerance::tolerance_test;

@@ -1,19 +1,27 @@
+// The tolerance classes, and the tolerance test.
 ghost use mathlib.Core.Path.{_≡_};
 ghost use Prim.Native.Nat.{_<_, _≤_, _^_};
 ghost use lib.IntN.{natAbs};
-ghost use Rattle.curve.specs.Tolerance.{JudgedBy, Judged, allows, judged, stated};
-ghost use Rattle.quantity.specs.StepAnswer.{stated as readingStated};
-use crate::exact::FIRST;
-use crate::exact::LAST;
-use crate::reading::read_by;
+ghost use Rattle.quantity.specs.Outcomes.{Follows};
+ghost use Rattle.curve.specs.Tolerance.{allows, stated, resultOf, testByClass, toleranceTest};
+use crate::comparison::FIRST;
+use crate::comparison::LAST;
+use crate::from_ratio::read_by;
+use law::Law;
+use law::ReadingAnswer;
 use quantity::Celsius;
 use quantity::Nanoohm;
 use quantity::Refusal;
-use quantity::StepAnswer;
 
-// Whether a thermometer is within its class, and its error in steps: the curve's step less the bath's.
-pub enum Verdict {
-    Tested { passes: bool, error: i64 },
+// Whether a thermometer is within its class, its error in steps, which is the curve's step less the bath's, and the law by which it was read.
+pub struct ToleranceResult {
+    pub law: Law,
+    pub passes: bool,
+    pub error: i64,
+}
+
+pub enum ToleranceAnswer {
+    Tested(ToleranceResult),
     Refused(Refusal),
 }
 
@@ -34,39 +42,41 @@ fn allowed(class: Class, bath: i64, error: i64) -> bool
     1000 * whole::magnitude(error) <= 1000 * fixed + slope * whole::magnitude(bath)
 }
 
-// A reading judged against the bath.
-fn judged_reading(class: Class, bath: i64, reading: StepAnswer) -> Verdict
-    requires { ⌜ (class .fixed ≤ 3_000) × (class .slope ≤ 5) × (natAbs bath < 2 ^ 31) × (natAbs (readingStated reading .step) < 2 ^ 31) ⌝ }
-    ensures { λ v. ⌜ stated v ≡ judged class bath (readingStated reading) ⌝ }
+// The result of a step that was read.
+fn result_of(class: Class, bath: i64, step: Celsius) -> ToleranceResult
+    requires { ⌜ (class .fixed ≤ 3_000) × (class .slope ≤ 5) × (natAbs bath < 2 ^ 31) × (natAbs (step .0) < 2 ^ 31) ⌝ }
+    ensures { λ r. ⌜ stated (ToleranceAnswer.Tested r) .answer ≡ resultOf class bath (step .0) ⌝ }
 {
-    match reading {
-        StepAnswer::At(step) => {
-            let error = whole::difference(step.0, bath);
-            Verdict::Tested {
-                passes: allowed(class, bath, error),
-                error,
-            }
-        }
-        StepAnswer::Refused(why) => Verdict::Refused(why),
+    let error = whole::difference(step.0, bath);
+    ToleranceResult {
+        law: Law::Curve,
+        passes: allowed(class, bath, error),
+        error,
     }
 }
 
-fn judge_by(class: Class, bath: i64, r: Nanoohm, r0: Nanoohm) -> Verdict
+fn test_by_class(class: Class, bath: i64, r: Nanoohm, r0: Nanoohm) -> ToleranceAnswer
     requires { ⌜ (class .fixed ≤ 3_000) × (class .slope ≤ 5) × (natAbs (class .top) < 2 ^ 31) ⌝ }
-    ensures { λ v. ⌜ JudgedBy class bath (r .0) (r0 .0) (stated v) ⌝ }
+    ensures { λ v. ⌜ Follows (testByClass class bath (r .0) (r0 .0)) (stated v) ⌝ }
 {
     if whole::less(bath, FIRST) {
-        return Verdict::Refused(Refusal::BelowRange);
+        return ToleranceAnswer::Refused(Refusal::BelowRange);
     }
     if whole::less(class.top, bath) {
-        return Verdict::Refused(Refusal::AboveRange);
+        return ToleranceAnswer::Refused(Refusal::AboveRange);
     }
-    judged_reading(class, bath, read_by(r, r0))
+    match read_by(r, r0) {
+        ReadingAnswer::Read(reading) => {
+            let step = reading.step;
+            ToleranceAnswer::Tested(result_of(class, bath, step))
+        }
+        ReadingAnswer::Refused(why) => ToleranceAnswer::Refused(why),
+    }
 }
 
 // A tolerance test. The class is named by its letter.
-pub fn judge(letter: u8, bath: Celsius, r: Nanoohm, r0: Nanoohm) -> Verdict
-    ensures { λ v. ⌜ Judged letter (bath .0) (r .0) (r0 .0) (stated v) ⌝ }
+pub fn tolerance_test(letter: u8, bath: Celsius, r: Nanoohm, r0: Nanoohm) -> ToleranceAnswer
+    ensures { λ v. ⌜ Follows (toleranceTest letter (bath .0) (r .0) (r0 .0)) (stated v) ⌝ }
 {
     let t = bath.0;
     if letter == b'A' {
@@ -75,7 +85,7 @@ pub fn judge(letter: u8, bath: Celsius, r: Nanoohm, r0: Nanoohm) -> Verdict
             fixed: 1_500,
             slope: 2,
         };
-        return judge_by(class, t, r, r0);
+        return test_by_class(class, t, r, r0);
     }
     if letter == b'B' {
         let class = Class {
@@ -83,7 +93,7 @@ pub fn judge(letter: u8, bath: Celsius, r: Nanoohm, r0: Nanoohm) -> Verdict
             fixed: 3_000,
             slope: 5,
         };
-        return judge_by(class, t, r, r0);
+        return test_by_class(class, t, r, r0);
     }
-    Verdict::Refused(Refusal::NameUnknown)
+    ToleranceAnswer::Refused(Refusal::NameUnknown)
 }

@@ -3,16 +3,16 @@
 ghost use mathlib.Core.Path.{_≡_};
 ghost use Prim.Native.Nat.{_<_, _^_};
 ghost use lib.IntN.{pos, natAbs, _-ℤ_};
-use curve::Verdict;
+use curve::ToleranceAnswer;
 use evidence::Drawn;
 use evidence::Generator;
 use evidence::Report;
 use evidence::Written;
+use law::ForwardAnswer;
+use law::ReadingAnswer;
 use quantity::Celsius;
 use quantity::Nanoohm;
 use quantity::Ratio;
-use quantity::RatioAnswer;
-use quantity::StepAnswer;
 
 // A signed number and the generator after it.
 struct Signed {
@@ -40,18 +40,24 @@ fn any_step(g: Generator) -> Signed
     }
 }
 
-fn reading_text(line: &mut [u8], from: usize, reading: StepAnswer) -> usize {
-    match reading {
-        StepAnswer::At(step) => evidence::signed(line, from, step.0),
-        StepAnswer::Refused(why) => evidence::refused(line, from, why.number() as u64),
+fn reading_text(line: &mut [u8], from: usize, answer: ReadingAnswer) -> usize {
+    match answer {
+        ReadingAnswer::Read(reading) => {
+            let step = reading.step;
+            evidence::signed(line, from, step.0)
+        }
+        ReadingAnswer::Refused(why) => evidence::refused(line, from, why.number() as u64),
     }
 }
 
 // The ratio of a step, or 0 where it has none.
 fn ratio_or_zero(step: i64) -> u64 {
-    match curve::ratio_at(Celsius(step)) {
-        RatioAnswer::Ratio(w) => w.0,
-        RatioAnswer::Refused(_) => 0,
+    match curve::forward(Celsius(step)) {
+        ForwardAnswer::At(forward) => {
+            let w = forward.ratio;
+            w.0
+        }
+        ForwardAnswer::Refused(_) => 0,
     }
 }
 
@@ -181,20 +187,21 @@ fn step_for(i: u64, g: Generator) -> Signed {
 }
 
 // The ratio, and what it reads.
-fn forward_text(line: &mut [u8], from: usize, answer: RatioAnswer) -> usize {
+fn forward_text(line: &mut [u8], from: usize, answer: ForwardAnswer) -> usize {
     match answer {
-        RatioAnswer::Ratio(w) => {
+        ForwardAnswer::At(forward) => {
+            let w = forward.ratio;
             let at = evidence::natural(line, from, w.0);
             reading_text(line, at, curve::read(w))
         }
-        RatioAnswer::Refused(why) => evidence::refused(line, from, why.number() as u64),
+        ForwardAnswer::Refused(why) => evidence::refused(line, from, why.number() as u64),
     }
 }
 
 fn forward_case(i: u64, g: Generator, line: &mut [u8]) -> Written {
     let step = step_for(i, g);
     let g1 = step.generator;
-    let answer = curve::ratio_at(Celsius(step.value));
+    let answer = curve::forward(Celsius(step.value));
     let mut at = evidence::text(line, 0, b"forward");
     at = evidence::signed(line, at, step.value);
     at = forward_text(line, at, answer);
@@ -369,35 +376,40 @@ fn at_ratio(g: Generator, w: Ratio, more: u64) -> Resistances
 }
 
 fn pair_for(g: Generator, aim: i64) -> Resistances {
-    match curve::ratio_at(Celsius(aim)) {
-        RatioAnswer::Ratio(w) => {
+    match curve::forward(Celsius(aim)) {
+        ForwardAnswer::At(forward) => {
+            let w = forward.ratio;
             let more = g.under(100);
             let g1 = more.generator;
             at_ratio(g1, w, more.value)
         }
-        RatioAnswer::Refused(_) => anywhere(g),
+        ForwardAnswer::Refused(_) => anywhere(g),
     }
 }
 
 // A unit more than the step's ratio, which reads the step itself.
 fn pair_that_reads(g: Generator, step: i64) -> Resistances {
-    match curve::ratio_at(Celsius(step)) {
-        RatioAnswer::Ratio(w) => at_ratio(g, w, 100),
-        RatioAnswer::Refused(_) => anywhere(g),
+    match curve::forward(Celsius(step)) {
+        ForwardAnswer::At(forward) => {
+            let w = forward.ratio;
+            at_ratio(g, w, 100)
+        }
+        ForwardAnswer::Refused(_) => anywhere(g),
     }
 }
 
-fn verdict_text(line: &mut [u8], from: usize, verdict: Verdict) -> usize {
-    match verdict {
-        Verdict::Tested { passes, error } => {
-            if passes {
+fn result_text(line: &mut [u8], from: usize, answer: ToleranceAnswer) -> usize {
+    match answer {
+        ToleranceAnswer::Tested(result) => {
+            let error = result.error;
+            if result.passes {
                 let at = evidence::text(line, from, b" pass");
                 return evidence::signed(line, at, error);
             }
             let at = evidence::text(line, from, b" fail");
             evidence::signed(line, at, error)
         }
-        Verdict::Refused(why) => evidence::refused(line, from, why.number() as u64),
+        ToleranceAnswer::Refused(why) => evidence::refused(line, from, why.number() as u64),
     }
 }
 
@@ -456,13 +468,13 @@ fn tolerance_case(i: u64, g: Generator, line: &mut [u8]) -> Written {
     let g1 = pair.generator;
     let letter = test.letter;
     let bath = test.bath;
-    let verdict = curve::judge(letter, Celsius(bath), Nanoohm(pair.r), Nanoohm(pair.r0));
+    let answer = curve::tolerance_test(letter, Celsius(bath), Nanoohm(pair.r), Nanoohm(pair.r0));
     let mut at = evidence::text(line, 0, b"tolerance");
     at = evidence::natural(line, at, letter as u64);
     at = evidence::signed(line, at, bath);
     at = evidence::natural(line, at, pair.r);
     at = evidence::natural(line, at, pair.r0);
-    at = verdict_text(line, at, verdict);
+    at = result_text(line, at, answer);
     at = evidence::text(line, at, b"\n");
     Written {
         generator: g1,

@@ -9,18 +9,18 @@ use lib.IntN.{ℤ, pos, natAbs, pow, one as oneℤ, _+ℤ_, _-ℤ_, _*ℤ_, *ℤ
 use Rattle.whole.specs.Choice.{if_then_else_}
 use Rattle.whole.proofs.Parts.{ints, one-part, abs-parts, add-parts, sub-parts, mul-parts}
 use Rattle.whole.proofs.Ring.{*ℤ-assoc, *ℤ-distribˡ, *ℤ-subʳ}
-use Rattle.polynomial.specs.Fraction.{integer, _+ᶠ_, _*ᶠ_, _^ᶠ_}
-use Rattle.polynomial.specs.Polynomial.{rounded}
-use Rattle.polynomial.proofs.Fractions.{Is, is-itself, is-integer, is-scaled, is-add, is-sub, is-times, is-power, is-<, scaled}
-use Rattle.polynomial.proofs.Loss.{loss, lost}
+use Rattle.exact.specs.Fraction.{integer, _+ᶠ_, _*ᶠ_, _^ᶠ_}
+use Rattle.exact.specs.Polynomial.{rounded}
+use Rattle.exact.proofs.Fractions.{Is, is-itself, is-integer, is-scaled, is-add, is-sub, is-times, is-power, is-<, scaled}
+use Rattle.exact.proofs.Loss.{loss, lost}
 use Rattle.quantity.specs.Quantities.{one, largestRatio}
-use Rattle.scale.specs.Deviation.{fine, x, plainDeviation}
-use Rattle.scale.proofs.Deviations as scale
-use Rattle.certificate.specs.declared.certificate.Certificate.{Certificate}
-use Rattle.deviation.specs.Working.{hasDTerm, z, dTerm, deviation, Wr}
+use Rattle.law.specs.declared.subrange.Form.{Form}
+use Rattle.deviation.specs.declared.places.Places.{Places}
+use Rattle.deviation.specs.Limits.{fine, x, Limited}
+use Rattle.deviation.specs.Working.{plainDeviation, hasDTerm, z, dTerm, deviation, Wr}
 use Rattle.deviation.specs.Exact.{exactRatio, exactDeviation, exactWr}
 use Rattle.deviation.specs.Promised.{rounding, Near}
-use Rattle.deviation.proofs.Sized.{Sized, sized, x-size, z-size}
+use Rattle.deviation.proofs.Sized.{farthest, x-size, z-size}
 
 -- ---- the exact deviation as a whole number over 10^27
 abbrev pub cubed : ℕ
@@ -60,7 +60,7 @@ inward₂ : (d n u u² : ℤ) → d *ℤ pow n 2 ≡ pos 0 *ℤ u² +ℤ n *ℤ 
 unfolding pow
 inward₂ d n u u² = cc (one-times n, *ℤ-comm d (n *ℤ n), *ℤ-assoc n n d, zero-*ℤ u², zero-*ℤ u, +ℤ-idl (n *ℤ d), +ℤ-idl (n *ℤ (n *ℤ d)))
 
-module _ (k : Certificate) (w : ℕ) where
+module _ (form : Form) (k : Places) (w : ℕ) where
   plainUp : ℤ
   plainUp = scaled one (x w) (pos 0) (k .a ∷ k .b ∷ k .c ∷ [])
 
@@ -68,7 +68,7 @@ module _ (k : Certificate) (w : ℕ) where
   silverUp = scaled one (z k w) (pos 0) (pos 0 ∷ k .d ∷ [])
 
   silverPart : ℤ
-  silverPart = if hasDTerm k w then silverUp *ℤ pos one else pos 0
+  silverPart = if hasDTerm form k w then silverUp *ℤ pos one else pos 0
 
   is-plain : Is (integer (k .a) *ᶠ exactRatio (x w) +ᶠ integer (k .b) *ᶠ exactRatio (x w) ^ᶠ 2 +ᶠ integer (k .c) *ᶠ exactRatio (x w) ^ᶠ 3) plainUp cubed
   unfolding plainUp scaled
@@ -88,30 +88,30 @@ module _ (k : Certificate) (w : ℕ) where
   pub scaledDeviation : ℤ
   scaledDeviation = plainUp +ℤ silverPart
 
-  pub is-deviation : Is (exactDeviation k w) scaledDeviation cubed
+  pub is-deviation : Is (exactDeviation form k w) scaledDeviation cubed
   unfolding exactDeviation silverPart scaledDeviation
-  is-deviation = is-add is-plain (by (hasDTerm k w))
+  is-deviation = is-add is-plain (by (hasDTerm form k w))
     where
       by : (t : Bool) → Is (if t then integer (k .d) *ᶠ exactRatio (z k w) ^ᶠ 2 else integer (pos 0)) (if t then silverUp *ℤ pos one else pos 0) cubed
       by true = is-silver
       by false = is-integer (pos 0) cubed
 
-  module _ (s : Sized k) (h : w ≤ largestRatio) where
-    plain-lost : natAbs (plainDeviation (k .a) (k .b) (k .c) (x w) *ℤ pos cubed -ℤ plainUp) ≤ 15_960_000_000_000_000_000_000_000_000
+  module _ (s : Limited form k) (h : w ≤ largestRatio) where
+    plain-lost : natAbs (plainDeviation k (x w) *ℤ pos cubed -ℤ plainUp) ≤ 15_960_000_000_000_000_000_000_000_000
     unfolding plainDeviation plainUp loss
-    plain-lost = omega (arith, lost one scale.farthest (omega arith) (x w) (x-size k s w h) (pos 0) (k .a ∷ k .b ∷ k .c ∷ []))
+    plain-lost = omega (arith, lost one farthest (omega arith) (x w) (x-size form k s w h) (pos 0) (k .a ∷ k .b ∷ k .c ∷ []))
 
-    silver-lost : natAbs (dTerm k w *ℤ pos cubed -ℤ silverPart) ≤ 2_030_000_000_000_000_000_000_000_000
+    silver-lost : natAbs (dTerm form k w *ℤ pos cubed -ℤ silverPart) ≤ 2_030_000_000_000_000_000_000_000_000
     unfolding dTerm silverPart silverUp loss
-    silver-lost = by (hasDTerm k w) refl
+    silver-lost = by (hasDTerm form k w) refl
       where
-        by : (t : Bool) → hasDTerm k w ≡ t → natAbs ((if t then rounded one (z k w) (pos 0) (pos 0 ∷ k .d ∷ []) else pos 0) *ℤ pos cubed -ℤ (if t then scaled one (z k w) (pos 0) (pos 0 ∷ k .d ∷ []) *ℤ pos one else pos 0)) ≤ 2_030_000_000_000_000_000_000_000_000
+        by : (t : Bool) → hasDTerm form k w ≡ t → natAbs ((if t then rounded one (z k w) (pos 0) (pos 0 ∷ k .d ∷ []) else pos 0) *ℤ pos cubed -ℤ (if t then scaled one (z k w) (pos 0) (pos 0 ∷ k .d ∷ []) *ℤ pos one else pos 0)) ≤ 2_030_000_000_000_000_000_000_000_000
         by true e =
             let q = rounded one (z k w) (pos 0) (pos 0 ∷ k .d ∷ []) in
             let y = scaled one (z k w) (pos 0) (pos 0 ∷ k .d ∷ []) in
             omega (
               arith,
-              lost one 1_030_000_000 (omega arith) (z k w) (z-size k s w h e) (pos 0) (pos 0 ∷ k .d ∷ []),
+              lost one 1_030_000_000 (omega arith) (z k w) (z-size form k s w h e) (pos 0) (pos 0 ∷ k .d ∷ []),
               abs-parts (q *ℤ pos squared -ℤ y),
               sub-parts (q *ℤ pos squared) y,
               mul-parts q (pos squared),
@@ -123,11 +123,11 @@ module _ (k : Certificate) (w : ℕ) where
             )
         by false e = omega arith
 
-    pub deviation-lost : natAbs (deviation k w *ℤ pos cubed -ℤ scaledDeviation) < rounding * cubed
+    pub deviation-lost : natAbs (deviation form k w *ℤ pos cubed -ℤ scaledDeviation) < rounding * cubed
     unfolding deviation scaledDeviation
     deviation-lost =
-        let p = plainDeviation (k .a) (k .b) (k .c) (x w) in
-        let q = dTerm k w in
+        let p = plainDeviation k (x w) in
+        let q = dTerm form k w in
         let t = pos cubed in
         omega (
           arith,
@@ -160,16 +160,15 @@ beside v d D n T h =
       omega (ints, h, r, a, b, m, q, add-parts ((v -ℤ d) *ℤ pos T) (pos n *ℤ pos T)),
     )
 
-pub is-Wr : (k : Certificate) (w : ℕ) → Is (exactWr k w) (pos (fine * w) *ℤ pos cubed -ℤ scaledDeviation k w) cubed
+pub is-Wr : (form : Form) (k : Places) (w : ℕ) → Is (exactWr form k w) (pos (fine * w) *ℤ pos cubed -ℤ scaledDeviation form k w) cubed
 unfolding exactWr
-is-Wr k w = is-sub (is-integer (pos (fine * w)) cubed) (is-deviation k w)
+is-Wr form k w = is-sub (is-integer (pos (fine * w)) cubed) (is-deviation form k w)
 
 pub close : Near
 unfolding Wr
-close k e w h =
-    let s = sized k e in
-    let b = beside (pos (fine * w)) (deviation k w) (scaledDeviation k w) rounding cubed (deviation-lost k w s h) in
+close form k s w h =
+    let b = beside (pos (fine * w)) (deviation form k w) (scaledDeviation form k w) rounding cubed (deviation-lost form k w s h) in
     record {
-      over-by-less = is-< (is-integer (Wr k w) cubed) (is-add (is-Wr k w) (is-integer (pos rounding) cubed)) (omega arith) (b .0);
-      under-by-less = is-< (is-Wr k w) (is-add (is-integer (Wr k w) cubed) (is-integer (pos rounding) cubed)) (omega arith) (b .1);
+      over-by-less = is-< (is-integer (Wr form k w) cubed) (is-add (is-Wr form k w) (is-integer (pos rounding) cubed)) (omega arith) (b .0);
+      under-by-less = is-< (is-Wr form k w) (is-add (is-integer (Wr form k w) cubed) (is-integer (pos rounding) cubed)) (omega arith) (b .1);
     }

@@ -1,18 +1,36 @@
 // What the programs that run certificates and readings share: names of laws, places of certificates, numbers at their limits.
 ghost use Prim.Native.Nat.{_≤_, _^_};
 ghost use lib.IntN.{natAbs};
+use certificate::Given;
+use deviation::Places;
 use evidence::Drawn;
 use evidence::Generator;
-use scale::Ag;
-use scale::Al;
-use scale::CURVE;
-use scale::Cell;
-use scale::Ga;
-use scale::In;
-use scale::Law;
-use scale::Sn;
-use scale::Subrange;
-use scale::Zn;
+use law::Ag;
+use law::Al;
+use law::CURVE;
+use law::Cell;
+use law::Ga;
+use law::In;
+use law::Law;
+use law::Name;
+use law::Sn;
+use law::Subrange;
+use law::Zn;
+use quantity::Ratio;
+
+// A certificate as it is given, by its law's name and its places.
+pub fn given_by(name: u64, a: i64, b: i64, c: i64, d: i64, wal: u64) -> Given {
+    Given {
+        law: Name(name),
+        places: Places {
+            a,
+            b,
+            c,
+            d,
+            wal: Ratio(wal),
+        },
+    }
+}
 
 // A signed number and the generator after it.
 pub struct Signed {

@@ -1,1 +1,2 @@
+-- What is proved of the definitions of `entry`.
 pub mod Faults

@@ -2,19 +2,19 @@
 use mathlib.Core.Bool.{Bool, _&&_, not}
 use Prim.Native.Nat.{ℕ}
 use lib.Dec.{eqb, ltb}
-use lib.IntN.{ℤ, pos}
+use lib.IntN.{ℤ}
 use lib.Signed.{ltZ}
 use Rattle.whole.specs.Choice.{if_then_else_}
-use Rattle.scale.specs.Subranges.{lawNamed}
-use Rattle.certificate.specs.declared.certificate.Certificate.{Certificate}
-use Rattle.certificate.specs.Certificate.{givenThen}
+use Rattle.quantity.specs.Outcomes.{numberGiven}
+use Rattle.deviation.specs.declared.places.Places.{Places}
+use Rattle.certificate.specs.declared.soundness.Given.{Given}
+use Rattle.certificate.specs.Certificate.{noPlaces, givenRule}
 use Rattle.entry.specs.declared.entry.Serial.{Serial}
-use Rattle.entry.specs.declared.entry.Given.{Given}
 use Rattle.entry.specs.declared.entry.Entry.{Entry}
 
 -- The number that refuses a certificate: 3 where no law has its name, 7 where it is not sound; 0 where it is good.
 abbrev pub fault : Given → ℕ
-fault k = givenThen (λ (number : ℕ). number) (λ (_ : Certificate). 0) (lawNamed (k .law .0)) (k .a) (k .b) (k .c) (k .d) (k .wal .0)
+fault k = numberGiven (givenRule k .tests)
 
 abbrev pub isUnknown : Given → Bool
 isUnknown k = eqb (fault k) 3
@@ -30,9 +30,11 @@ abbrev pub alike : ℤ → ℤ → Bool
 alike x y = not (ltZ x y) && not (ltZ y x)
 
 -- The same certificate: one law by its name, and one number in each place.
+abbrev pub samePlaces : Places → Places → Bool
+samePlaces p q = alike (p .a) (q .a) && alike (p .b) (q .b) && alike (p .c) (q .c) && alike (p .d) (q .d) && eqb (p .wal .0) (q .wal .0)
+
 abbrev pub same : Given → Given → Bool
-same k l =
-    eqb (k .law .0) (l .law .0) && alike (k .a) (l .a) && alike (k .b) (l .b) && alike (k .c) (l .c) && alike (k .d) (l .d) && eqb (k .wal .0) (l .wal .0)
+same k l = eqb (k .law .0) (l .law .0) && samePlaces (k .places) (l .places)
 
 -- Number 0 is a free place.
 abbrev pub isFree : Entry → Bool
@@ -45,7 +47,7 @@ free =
       number = record { 0 = 0 };
       serial = record { 0 = 0 };
       mark = record { 0 = 0 };
-      certificate = record { law = record { 0 = 0 }; a = pos 0; b = pos 0; c = pos 0; d = pos 0; wal = record { 0 = 0 } };
+      certificate = record { law = record { 0 = 0 }; places = noPlaces .places };
     }
 
 -- A thermometer's certificate is live exactly when its serial is above the mark.

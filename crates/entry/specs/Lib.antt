@@ -1,1 +1,2 @@
+-- The definitions of `entry`.
 pub mod Entry

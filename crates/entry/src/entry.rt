@@ -1,25 +1,19 @@
 // An entry, and how two entries of one thermometer become one.
 ghost use mathlib.Core.Path.{_≡_};
-ghost use Rattle.entry.specs.Entry.{fault as faultOf, alike as alikeBy, same as sameBy, isFree, isLive, higher as higherOf, clash, free as freePlace, merged as mergedOf, joined as joinedOf, raised as raisedTo};
-use certificate::CertificateAnswer;
+ghost use Rattle.entry.specs.Entry.{isUnknown, isUnsound, isBad, alike as alikeBy, samePlaces, same as sameBy, isFree, isLive, higher as higherOf, clash, free as freePlace, merged as mergedOf, joined as joinedOf, raised as raisedTo};
+use certificate::Certificate;
+use certificate::Given;
+use deviation::Places;
+use law::Law;
+use law::Name;
+use law::NamedLaw;
 use quantity::Ratio;
-use scale::Name;
 
 // A thermometer's number. 0 names none.
 pub struct Thermometer(pub u64);
 
 // A certificate's serial. A mark is the serial up to which certificates are withdrawn.
 pub struct Serial(pub u64);
-
-// A certificate as it was given: the name of its law and its places.
-pub struct Given {
-    pub law: Name,
-    pub a: i64,
-    pub b: i64,
-    pub c: i64,
-    pub d: i64,
-    pub wal: Ratio,
-}
 
 // Number 0 is a free place, whose rest is not looked at.
 pub struct Entry {
@@ -29,16 +23,35 @@ pub struct Entry {
     pub certificate: Given,
 }
 
-// The number by which a certificate is refused, 3 or 7, or 0 where it is good.
-pub fn fault(k: Given) -> u64
-    ensures { λ n. ⌜ n ≡ faultOf k ⌝ }
+// Whether no law has a certificate's name: it would be refused by 3.
+pub fn is_unknown(k: Given) -> bool
+    ensures { λ r. ⌜ r ≡ isUnknown k ⌝ }
 {
-    let law = k.law;
-    let wal = k.wal;
-    match certificate::given(law, k.a, k.b, k.c, k.d, wal) {
-        CertificateAnswer::Certificate(_) => 0,
-        CertificateAnswer::Refused(why) => why.number() as u64,
+    match Law::named(k.law) {
+        NamedLaw::Unknown => true,
+        NamedLaw::Known(_) => false,
     }
+}
+
+// Whether a certificate's law is known and it is not sound: it would be refused by 7.
+pub fn is_unsound(k: Given) -> bool
+    ensures { λ r. ⌜ r ≡ isUnsound k ⌝ }
+{
+    match Law::named(k.law) {
+        NamedLaw::Unknown => false,
+        NamedLaw::Known(law) => {
+            let places = k.places;
+            let certificate = Certificate { law, places };
+            !certificate.is_sound()
+        }
+    }
+}
+
+// Whether a certificate would be refused, by 3 or by 7.
+pub fn is_bad(k: Given) -> bool
+    ensures { λ r. ⌜ r ≡ isBad k ⌝ }
+{
+    is_unknown(k) | is_unsound(k)
 }
 
 // Equality of signed numbers, by their order.
@@ -48,20 +61,21 @@ fn alike(x: i64, y: i64) -> bool
     !whole::less(x, y) & !whole::less(y, x)
 }
 
+fn same_places(p: Places, q: Places) -> bool
+    ensures { λ r. ⌜ r ≡ samePlaces p q ⌝ }
+{
+    alike(p.a, q.a) & alike(p.b, q.b) & alike(p.c, q.c) & alike(p.d, q.d) & (p.wal.0 == q.wal.0)
+}
+
 // One law by its name, and one number in each place.
 fn same(k: Given, l: Given) -> bool
     ensures { λ r. ⌜ r ≡ sameBy k l ⌝ }
 {
     let name = k.law;
     let other = l.law;
-    let wal = k.wal;
-    let other_wal = l.wal;
-    (name.0 == other.0)
-        & alike(k.a, l.a)
-        & alike(k.b, l.b)
-        & alike(k.c, l.c)
-        & alike(k.d, l.d)
-        & (wal.0 == other_wal.0)
+    let p = k.places;
+    let q = l.places;
+    (name.0 == other.0) & same_places(p, q)
 }
 
 pub fn is_free(e: Entry) -> bool
@@ -162,11 +176,13 @@ pub fn free() -> Entry
         mark: Serial(0),
         certificate: Given {
             law: Name(0),
-            a: 0,
-            b: 0,
-            c: 0,
-            d: 0,
-            wal: Ratio(0),
+            places: Places {
+                a: 0,
+                b: 0,
+                c: 0,
+                d: 0,
+                wal: Ratio(0),
+            },
         },
     }
 }

@@ -1,3 +1,4 @@
+// Numbers that are drawn, the same in each run.
 ghost use Prim.Native.Nat.{_<_, _*_};
 
 // A multiplicative generator modulo 2^31 - 1.

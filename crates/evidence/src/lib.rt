@@ -3,7 +3,7 @@
 // second/README.md has the rules, which the second program follows too.
 mod figure;
 mod generator;
-mod line;
+mod printing;
 mod report;
 
 pub use figure::ONE;
@@ -14,10 +14,10 @@ pub use figure::say_refused;
 pub use figure::say_signed;
 pub use generator::Drawn;
 pub use generator::Generator;
-pub use line::natural;
-pub use line::refused;
-pub use line::signed;
-pub use line::text;
+pub use printing::natural;
+pub use printing::refused;
+pub use printing::signed;
+pub use printing::text;
 pub use report::Report;
 pub use report::Written;
 pub use report::empty_line;

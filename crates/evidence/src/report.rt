@@ -1,8 +1,9 @@
+// What is printed of a family of cases.
 ghost use mathlib.Core.Path.{_≡_};
 ghost use lib.ListN.{length};
 use crate::generator::Generator;
-use crate::line::natural;
-use crate::line::text;
+use crate::printing::natural;
+use crate::printing::text;
 use libc::STDOUT_FILENO;
 
 // The generator after a case, and the length of the case's line.

@@ -14,7 +14,7 @@ use Rattle.whole.proofs.Size.{abs-sub, abs-product, abs→fits}
 use Rattle.whole.proofs.Rounding.{abs-floor, quotient-within}
 use Rattle.quantity.specs.Quantities.{one}
 use Rattle.fit.specs.declared.Point.{Point}
-use Rattle.scale.specs.Deviation.{fine, keeps}
+use Rattle.deviation.specs.Limits.{fine, keeps}
 use Rattle.fit.specs.Fit.{_·_, _÷_, q, r}
 use Rattle.fit.specs.Room.{Kept, Spread, wide}
 

@@ -1,25 +1,18 @@
--- Coefficients none of which is beyond its limit.
+-- Places none of which is beyond its limit.
 use mathlib.Core.Path.{_≡_, refl}
 use mathlib.Core.Bool.{Bool, true, false, false≢true, _||_}
 use mathlib.Core.List.{[], _∷_}
-use Prim.Native.Nat.{_≤_}
 use borrow.Author.Tests.{ltb-false}
 use lib.Dec.{ltb}
 use lib.IntN.{ℤ, pos, natAbs}
 use Rattle.whole.specs.Any.{any}
 use Rattle.whole.proofs.Any.{or-false}
-use Rattle.scale.specs.Deviation.{largestCoefficient}
+use Rattle.deviation.specs.Limits.{largestCoefficient, Small}
 use Rattle.fit.specs.declared.Point.{Point}
-use Rattle.fit.specs.declared.Coefficients.{Coefficients}
+use Rattle.deviation.specs.declared.places.Places.{Places}
 use Rattle.fit.specs.Fit.{beyond, withSilver}
 
-pub record Within (k : Coefficients) : Type 0 where
-  pub a : natAbs (k .a) ≤ largestCoefficient
-  pub b : natAbs (k .b) ≤ largestCoefficient
-  pub c : natAbs (k .c) ≤ largestCoefficient
-  pub d : natAbs (k .d) ≤ largestCoefficient
-
-pub all-within : (k : Coefficients) → beyond k ≡ false → Within k
+pub all-within : (k : Places) → beyond k ≡ false → Small k
 unfolding beyond
 all-within k e =
     let large : ℤ → Bool = λ (value : ℤ). ltb largestCoefficient (natAbs value) in
@@ -35,7 +28,7 @@ all-within k e =
     }
 
 -- where a, b or c is beyond its limit, d is no help
-pub silver-beyond : (k : Coefficients) (al ag : Point) → k .d ≡ pos 0 → beyond k ≡ true → beyond (withSilver k al ag) ≡ true
+pub silver-beyond : (k : Places) (al ag : Point) → k .d ≡ pos 0 → beyond k ≡ true → beyond (withSilver k al ag) ≡ true
 unfolding beyond
 silver-beyond k al ag z e = by (large (k .a)) (large (k .b)) (large (k .c)) (large (withSilver k al ag .d)) (rw z at e)
   where

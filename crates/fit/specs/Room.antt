@@ -7,8 +7,8 @@ use lib.IntN.{pos, negℤ, _+ℤ_}
 use lib.Signed.{_≤ℤ_}
 use Rattle.quantity.specs.Quantities.{one, largestRatio}
 use Rattle.fit.specs.declared.Point.{Point}
-use Rattle.fit.specs.declared.Coefficients.{Coefficients}
-use Rattle.scale.specs.Deviation.{keeps}
+use Rattle.deviation.specs.declared.places.Places.{Places}
+use Rattle.deviation.specs.Limits.{keeps}
 use Rattle.fit.specs.Fit.{beyond}
 
 -- A cell that was accepted: W is from 0 to 4.4 and not 1, and the deviation keeps its limit.
@@ -41,6 +41,6 @@ abbrev pub Roomy : List Point → Type 0
 Roomy ps = Spread (leastGap ps) ps
 
 -- Coefficients that stand for others: they are those, or both are beyond their limit. Where a, b, c are beyond it, d might not fit and is not worked.
-pub record StandFor (k k′ : Coefficients) : Type 0 where
+pub record StandFor (k k′ : Places) : Type 0 where
   pub verdict : beyond k ≡ beyond k′
   pub same : beyond k ≡ false → k ≡ k′

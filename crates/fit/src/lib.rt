@@ -1,4 +1,4 @@
-// The coefficients that the used cells give. Every product or quotient is rounded down once, to 10^-11.
+// The fit: the coefficients that the used cells give. Every product or quotient is rounded down once, to 10^-11.
 ghost use mathlib.Core.Path.{_≡_};
 ghost use mathlib.Core.List.{[], _∷_};
 ghost use Prim.Native.Nat.{_<_, _≤_, _*_, _^_};
@@ -7,24 +7,20 @@ ghost use lib.Dec.{ltb};
 ghost use lib.IntN.{pos, natAbs, _+ℤ_, _-ℤ_};
 ghost use lib.Signed.{_<ℤ_};
 ghost use Rattle.quantity.specs.Quantities.{one};
-ghost use Rattle.scale.specs.Deviation.{largestCoefficient, plainDeviation};
+ghost use Rattle.deviation.specs.Limits.{largestCoefficient};
+ghost use Rattle.deviation.specs.Working.{plainDeviation};
 ghost use Rattle.fit.specs.Fit.{_·_, _÷_, q as qOf, ofOne, ofTwo, ofThree, withSilver, fit, beyond as beyondOf};
 ghost use Rattle.fit.specs.Room.{Kept, Spread, Roomy, wide, StandFor};
-use scale::LARGEST_COEFFICIENT;
-use scale::ONE;
-use scale::plain_deviation;
+use deviation::LARGEST_COEFFICIENT;
+use deviation::ONE;
+use deviation::Places;
+use deviation::plain_deviation;
+use quantity::Ratio;
 
 // A used cell: x = W - 1 and its deviation.
 pub struct Point {
     pub x: i64,
     pub delta: i64,
-}
-
-pub struct Coefficients {
-    pub a: i64,
-    pub b: i64,
-    pub c: i64,
-    pub d: i64,
 }
 
 // n x
@@ -66,29 +62,31 @@ fn slope(low: i64, high: i64, p1: Point, p2: Point) -> i64
     over(whole::difference(high, low), whole::difference(p2.x, p1.x))
 }
 
-pub fn of_one(p1: Point) -> Coefficients
+pub fn of_one(p1: Point) -> Places
     requires { ⌜ Roomy (p1 ∷ []) ⌝ }
     ensures { λ k. ⌜ k ≡ ofOne p1 ⌝ }
 {
-    Coefficients {
+    Places {
         a: q(p1),
         b: 0,
         c: 0,
         d: 0,
+        wal: Ratio(0),
     }
 }
 
-pub fn of_two(p1: Point, p2: Point) -> Coefficients
+pub fn of_two(p1: Point, p2: Point) -> Places
     requires { ⌜ Roomy (p1 ∷ p2 ∷ []) ⌝ }
     ensures { λ k. ⌜ k ≡ ofTwo p1 p2 ⌝ }
 {
     let q1 = q(p1);
     let b = slope(q1, q(p2), p1, p2);
-    Coefficients {
+    Places {
         a: whole::difference(q1, times_x(b, p1)),
         b,
         c: 0,
         d: 0,
+        wal: Ratio(0),
     }
 }
 
@@ -109,7 +107,7 @@ fn coefficient_a(q1: i64, b: i64, c: i64, p1: Point) -> i64
     whole::difference(linear, times_x(times_x(c, p1), p1))
 }
 
-pub fn of_three(p1: Point, p2: Point, p3: Point) -> Coefficients
+pub fn of_three(p1: Point, p2: Point, p3: Point) -> Places
     requires { ⌜ Roomy (p1 ∷ p2 ∷ p3 ∷ []) ⌝ }
     ensures { λ k. ⌜ k ≡ ofThree p1 p2 p3 ⌝ }
 {
@@ -119,21 +117,22 @@ pub fn of_three(p1: Point, p2: Point, p3: Point) -> Coefficients
     let r23 = slope(q2, q(p3), p2, p3);
     let c = slope(r12, r23, p1, p3);
     let b = coefficient_b(r12, c, p1, p2);
-    Coefficients {
+    Places {
         a: coefficient_a(q1, b, c, p1),
         b,
         c,
         d: 0,
+        wal: Ratio(0),
     }
 }
 
 // Silver's deviation less the working deviation by a, b, c.
-fn excess(k: Coefficients, ag: Point) -> i64
+fn excess(k: Places, ag: Point) -> i64
     requires { ⌜ (beyondOf k ≡ false) × Kept ag ⌝ }
-    ensures { λ e. ⌜ e ≡ ag .delta -ℤ plainDeviation (k .a) (k .b) (k .c) (ag .x) ⌝ }
+    ensures { λ e. ⌜ e ≡ ag .delta -ℤ plainDeviation k (ag .x) ⌝ }
 {
     let x = ag.x;
-    whole::difference(ag.delta, plain_deviation(k.a, k.b, k.c, x))
+    whole::difference(ag.delta, plain_deviation(k, x))
 }
 
 // (e/z)/z
@@ -146,17 +145,18 @@ fn coefficient_d(e: i64, al: Point, ag: Point) -> i64
 }
 
 // d from silver, where a, b, c keep their limit.
-fn with_silver(k: Coefficients, al: Point, ag: Point) -> Coefficients
+fn with_silver(k: Places, al: Point, ag: Point) -> Places
     requires { ⌜ (beyondOf k ≡ false) × Spread wide (al ∷ ag ∷ []) ⌝ }
     ensures { λ r. ⌜ r ≡ withSilver k al ag ⌝ }
 {
     let e = excess(k, ag);
     let d = coefficient_d(e, al, ag);
-    Coefficients {
+    Places {
         a: k.a,
         b: k.b,
         c: k.c,
         d,
+        wal: Ratio(0),
     }
 }
 
@@ -167,14 +167,14 @@ fn too_large(value: i64) -> bool
 }
 
 // Whether a coefficient is beyond its limit.
-pub fn beyond(k: Coefficients) -> bool
+pub fn beyond(k: Places) -> bool
     ensures { λ b. ⌜ b ≡ beyondOf k ⌝ }
 {
     too_large(k.a) | too_large(k.b) | too_large(k.c) | too_large(k.d)
 }
 
 // Where a, b, c are beyond their limit, so are the four, and d is not worked: it might not fit.
-pub fn of_four(p1: Point, p2: Point, p3: Point, p4: Point) -> Coefficients
+pub fn of_four(p1: Point, p2: Point, p3: Point, p4: Point) -> Places
     requires { ⌜ Roomy (p1 ∷ p2 ∷ p3 ∷ p4 ∷ []) ⌝ }
     ensures { λ k. ⌜ StandFor k (fit (p1 ∷ p2 ∷ p3 ∷ p4 ∷ [])) ⌝ }
 {

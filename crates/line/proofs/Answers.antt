@@ -8,56 +8,49 @@ use Prim.Native.Nat.{ℕ}
 use lib.IntN.{ℤ, pos, negsuc, natAbs}
 use lib.Signed.{ltZ, _≤ℤ_, _<ℤ_}
 use lib.ListN.{take}
-use borrow.Author.Tests.{ne-eqb}
 use Rattle.whole.specs.Choice.{if_then_else_}
 use Rattle.whole.specs.Text.{ascii}
 use Rattle.whole.proofs.Machine.{lt-yes, lt-no}
 use Rattle.whole.proofs.Parts.{ints}
 use Rattle.quantity.specs.declared.refusal.Refusal.{Refusal}
+use Rattle.quantity.specs.declared.refusal.Refusal.the-variants.{IllFormed}
 use Rattle.quantity.specs.Refusals.{numberOf}
-use Rattle.quantity.proofs.Unique.{not-zero}
-use Rattle.scale.specs.declared.law.Law.{Law}
-use Rattle.reading.specs.Reading.{Outcome, refused, ReadNamed}
+use Rattle.quantity.specs.Outcomes.{Outcome, answered, refused}
+use Rattle.quantity.proofs.Outcomes.{some-number}
+use Rattle.law.specs.declared.laws.Law.{Law}
+use Rattle.law.specs.Answers.{LawAndStep, noStep}
 use Rattle.row.specs.declared.row.Row.{Row}
 use Rattle.row.specs.declared.row.Parsed.the-variants as variant
 use Rattle.row.specs.Rows as parsed
 use Rattle.row.specs.Rows.{wellFormed, idOf, lawOf, rowOf, parsedOf}
 use Rattle.row.proofs.Joined.{named}
-use Rattle.line.specs.declared.lent.LineAnswer.{LineAnswer}
+use Rattle.line.specs.declared.lent.Placing.{Placing}
 use Rattle.line.specs.Decimal.{decimal, signedDecimal}
 use Rattle.line.specs.Answer.{names, answerLine, ReadRow}
 use Rattle.line.specs.Writing.{readText, refusedText}
-use Rattle.line.specs.Lent.{Placed, AnsweredInto}
+use Rattle.line.specs.Lent.{PlacedAs, AnsweredAs}
 
 read-text : (x : List ℕ) → x ++ ascii ",0\r\n" ≡ x ++ ascii "," ++ decimal 0 ++ ascii "\r\n"
 unfolding decimal
 read-text x = sym (append-assoc (x ++ ascii ",") (decimal 0) (ascii "\r\n") ∙ append-assoc x (ascii ",") (decimal 0 ++ ascii "\r\n"))
 
-module _ (line out out′ : List ℕ) (x : LineAnswer) (w : wellFormed line ≡ true) where
-  pub answered-read : (law : Law) (step : ℤ) → ReadRow (rowOf line) (record { code = 0; law = some law; step = step })
-      → Placed 0 (readText (take (rowOf line .prefix) line) (signedDecimal step)) out out′ x → AnsweredInto line out out′ x
+module _ (line out out′ : List ℕ) (x : Placing) (w : wellFormed line ≡ true) where
+  pub answered-read : (law : Law) (step : ℤ) → ReadRow (rowOf line) (answered (record { law = some law; step = step }))
+      → PlacedAs 0 (readText (take (rowOf line .prefix) line) (signedDecimal step)) out out′ x → AnsweredAs line out out′ x
   answered-read law step r p =
-      let o : Outcome = record { code = 0; law = some law; step = step } in
+      let o : Outcome LawAndStep = answered (record { law = some law; step = step }) in
       let text : readText (take (rowOf line .prefix) line) (signedDecimal step) ≡ answerLine (idOf line) (lawOf line) o =
       ap (λ (n : List ℕ). readText n (signedDecimal step)) (named line w .first) ∙ read-text (names (idOf line) (lawOf line) ++ signedDecimal step) in
-      (0, answerLine (idOf line) (lawOf line) o, rw w (o, r, refl, refl), subst (λ (t : List ℕ). Placed 0 t out out′ x) text p)
+      (0, answerLine (idOf line) (lawOf line) o, rw w (o, r, refl, refl), subst (λ (t : List ℕ). PlacedAs 0 t out out′ x) text p)
 
-  pub answered-refused : (why : Refusal) → ReadRow (rowOf line) (refused (numberOf why))
-      → Placed (numberOf why) (refusedText (take (rowOf line .prefix) line) (numberOf why)) out out′ x → AnsweredInto line out out′ x
+  pub answered-refused : (why : Refusal) → ReadRow (rowOf line) (refused noStep (numberOf why))
+      → PlacedAs (numberOf why) (refusedText (take (rowOf line .prefix) line) (numberOf why)) out out′ x → AnsweredAs line out out′ x
   answered-refused why r p =
-      let o : Outcome = refused (numberOf why) in
+      let o : Outcome LawAndStep = refused noStep (numberOf why) in
       let text : refusedText (take (rowOf line .prefix) line) (numberOf why) ≡ answerLine (idOf line) (lawOf line) o =
       ap (λ (n : List ℕ). refusedText n (numberOf why)) (named line w .first)
-      ∙ rw (ne-eqb (numberOf why) 0 (λ e. not-zero why (sym e)), append-nil (names (idOf line) (lawOf line))) in
-      (numberOf why, answerLine (idOf line) (lawOf line) o, rw w (o, r, refl, refl), subst (λ (t : List ℕ). Placed (numberOf why) t out out′ x) text p)
-
--- the same reading of equal places
-pub read-same : (name : ℕ) (a b c d a′ b′ c′ d′ : ℤ) (wal r r0 : ℕ) (o : Outcome) → a ≡ a′ → b ≡ b′ → c ≡ c′ → d ≡ d′
-    → ReadNamed name a b c d wal r r0 o → ReadNamed name a′ b′ c′ d′ wal r r0 o
-read-same name a b c d a′ b′ c′ d′ wal r r0 o ea eb ec ed h =
-    subst (λ (z : ℤ). ReadNamed name a′ b′ c′ z wal r r0 o) ed
-    (subst (λ (z : ℤ). ReadNamed name a′ b′ z d wal r r0 o) ec
-    (subst (λ (z : ℤ). ReadNamed name a′ z c d wal r r0 o) eb (subst (λ (z : ℤ). ReadNamed name z b c d wal r r0 o) ea h)))
+      ∙ rw (some-number why, append-nil (names (idOf line) (lawOf line))) in
+      (numberOf why, answerLine (idOf line) (lawOf line) o, rw w (o, r, refl, refl), subst (λ (t : List ℕ). PlacedAs (numberOf why) t out out′ x) text p)
 
 pub step-below : (z : ℤ) → ltZ z (pos 0) ≡ true → ascii "-" ++ decimal (natAbs z) ≡ signedDecimal z
 step-below (pos n) e = absurd (let h : pos n <ℤ pos 0 = lt-yes refl e in omega ints)
@@ -76,13 +69,13 @@ pub well-formed : (line : List ℕ) (row : Row) → parsed.stated (variant.Row r
 unfolding rowIn
 well-formed line row = by (wellFormed line)
   where
-    by : (t : Bool) → parsed.stated (variant.Row row) ≡ (if t then record { code = 0; row = some (rowOf line) } else record { code = 10; row = none }) → (t ≡ true) × (row ≡ rowOf line)
+    by : (t : Bool) → parsed.stated (variant.Row row) ≡ (if t then record { code = 0; row = some (rowOf line) } else record { code = numberOf IllFormed; row = none }) → (t ≡ true) × (row ≡ rowOf line)
     by true e = (refl, ap (λ (o : parsed.Outcome). rowIn row (o .row)) e)
-    by false e = absurd (let code : 0 ≡ 10 = ap (λ (o : parsed.Outcome). o .code) e in omega arith)
+    by false e = absurd (let code : 0 ≡ numberOf IllFormed = ap (λ (o : parsed.Outcome). o .code) e in omega arith)
 
 pub ill-formed : (line : List ℕ) → parsed.stated variant.IllFormed ≡ parsedOf line → wellFormed line ≡ false
 ill-formed line = by (wellFormed line)
   where
-    by : (t : Bool) → parsed.stated variant.IllFormed ≡ (if t then record { code = 0; row = some (rowOf line) } else record { code = 10; row = none }) → t ≡ false
-    by true e = absurd (let code : 10 ≡ 0 = ap (λ (o : parsed.Outcome). o .code) e in omega arith)
+    by : (t : Bool) → parsed.stated variant.IllFormed ≡ (if t then record { code = 0; row = some (rowOf line) } else record { code = numberOf IllFormed; row = none }) → t ≡ false
+    by true e = absurd (let code : numberOf IllFormed ≡ 0 = ap (λ (o : parsed.Outcome). o .code) e in omega arith)
     by false e = refl

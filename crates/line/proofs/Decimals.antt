@@ -40,6 +40,13 @@ one-long n h = ap length (decimal-one n h)
 pub more-long : (n : ℕ) → 10 ≤ n → length (decimal n) ≡ length (decimal (n / 10)) + 1
 more-long n h = ap length (decimal-more n h) ∙ length-append (decimal (n / 10)) ((code "0" + n % 10) ∷ [])
 
+-- two digits more than a hundredth of it
+pub two-longer : (n : ℕ) → 100 ≤ n → length (decimal n) ≡ length (decimal (n / 100)) + 2
+two-longer n h =
+    let tenth : 10 ≤ n / 10 = omega (arith, h) in
+    let hundredth : n / 10 / 10 ≡ n / 100 = omega arith in
+    omega (arith, more-long n (omega (arith, h)), more-long (n / 10) tenth, ap (λ (k : ℕ). length (decimal k)) hundredth)
+
 pub some-digit : (n : ℕ) → 1 ≤ length (decimal n)
 some-digit n =
     elim (decLe 10 n) [

@@ -1,3 +1,4 @@
+-- The proofs about a line's answer.
 pub mod Overs
 pub mod Decimals
 pub mod Placing

@@ -1,3 +1,4 @@
+-- The definitions about a line's answer.
 pub mod Decimal
 pub mod Answer
 pub mod Lent

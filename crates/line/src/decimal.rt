@@ -5,15 +5,18 @@ ghost use lib.ListN.{length};
 ghost use Rattle.line.specs.Decimal.{decimal};
 ghost use Rattle.line.specs.Writing.{over};
 
-// How many digits a number has.
+// How many digits a number has. Two are taken off at a time.
 pub fn width(n: u64) -> usize
     ensures { λ r. ⌜ r ≡ length (decimal n) ⌝ }
 {
     let mut rest = n;
     let mut digits: usize = 1;
-    while rest >= 10 {
-        rest /= 10;
-        digits += 1;
+    while rest >= 100 {
+        rest /= 100;
+        digits += 2;
+    }
+    if rest >= 10 {
+        return digits + 1;
     }
     digits
 }

@@ -4,5 +4,7 @@ mod decimal;
 mod lent;
 
 pub use answering::answer;
+pub use answering::place_answer;
 pub use lent::LineAnswer;
+pub use lent::Placing;
 pub use lent::place;

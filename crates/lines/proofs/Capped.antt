@@ -1,4 +1,4 @@
--- What is held of a line says as much as the line.
+-- What is held of a partial line says as much as the line.
 use mathlib.Core.Path.{_≡_, refl, sym, ap, ap₂, _∙_, subst}
 use mathlib.Core.Bool.{Bool, true, false, _&&_}
 use mathlib.Core.List.{List, [], _∷_, _++_, append-assoc, append-nil}
@@ -34,14 +34,14 @@ capped-over line h =
       | yes k ↦ rw (lt-leb (length line) mostHeld k)
       | no k ↦
           let e : length line ≡ mostHeld = omega (arith, k) in
-          let i : 201 < length line = omega arith in
-          capped-under line (omega arith) ∙ sym (take-all mostHeld line (omega arith)) ∙ take-suc line 201 0 i ∙ rw e
+          let i : mostHeld - 1 < length line = omega arith in
+          capped-under line (omega arith) ∙ sym (take-all mostHeld line (omega arith)) ∙ take-suc line (mostHeld - 1) 0 i ∙ rw e
     ]
 
 short-alike : (line : List ℕ) → mostHeld ≤ length line → Alike (take (mostHeld - 1) line ++ (lastByte line ∷ [])) line
 short-alike line h =
-    let len : length (take 201 line) ≡ 201 = length-take-le 201 line (omega arith) in
-    over (rw (length-append, len) (omega arith)) h (take-at (take 201 line) (lastByte line ∷ []) 201 len) (last-more (take 201 line) (lastByte line))
+    let len : length (take (mostHeld - 1) line) ≡ mostHeld - 1 = length-take-le (mostHeld - 1) line (omega arith) in
+    over (rw (length-append, len) (omega arith)) h (take-at (take (mostHeld - 1) line) (lastByte line ∷ []) (mostHeld - 1) len) (last-more (take (mostHeld - 1) line) (lastByte line))
 
 pub capped-alike : (line : List ℕ) → Alike (capped line) line
 capped-alike line =
@@ -68,7 +68,7 @@ pub alike-byte : {p q : List ℕ} → Alike p q → (b : ℕ) → Alike (p ++ (b
 alike-byte (equal e) b = equal (ap (λ (s : List ℕ). s ++ (b ∷ [])) e)
 alike-byte {p} {q} (over hp hq e l) b =
     over (rw length-append (omega arith)) (rw length-append (omega arith))
-    (take-append-le 201 p (b ∷ []) (omega arith) ∙ e ∙ sym (take-append-le 201 q (b ∷ []) (omega arith)))
+    (take-append-le (mostHeld - 1) p (b ∷ []) (omega arith) ∙ e ∙ sym (take-append-le (mostHeld - 1) q (b ∷ []) (omega arith)))
     (last-more p b ∙ sym (last-more q b))
 
 pub alike-append : {p q : List ℕ} → Alike p q → (s : List ℕ) → Alike (p ++ s) (q ++ s)

@@ -1,4 +1,6 @@
+-- The proofs about lines.
 pub mod Lines
 pub mod Capped
 pub mod Scan
+pub mod Appending
 pub mod Unique

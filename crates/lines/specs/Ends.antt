@@ -13,7 +13,7 @@ abbrev pub byteBefore : ℕ → List ℕ → ℕ → ℕ
 byteBefore last s i = if eqb i 0 then last else getD s (i - 1) 0
 
 -- The first byte of s that ends a line has this offset, or s has none and it is its length: no line ends before it, so that all bytes before it belong to the
--- line. `line` is what there is of that line before s.
+-- line. `line` is the partial line before s.
 pub record EndsAt (line s : List ℕ) (i : ℕ) : Type 0 where
   pub within : i ≤ length s
   pub before : ended line (take i s) ≡ []

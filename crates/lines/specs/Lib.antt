@@ -1,3 +1,4 @@
+-- The definitions about lines.
 pub mod Lines
 pub mod Held
 pub mod Ends

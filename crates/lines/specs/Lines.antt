@@ -22,17 +22,17 @@ endsAfter last b = eqb b (code "\n") && eqb last (code "\r")
 abbrev pub endsLine : List ℕ → ℕ → Bool
 endsLine line b = endsAfter (lastByte line) b
 
--- The lines that end within these bytes, where `line` is what there is of the first.
+-- The lines that end within these bytes, where `line` is the partial line before them.
 abbrev pub ended : List ℕ → List ℕ → List (List ℕ)
 ended line [] = []
 ended line (b ∷ s) = if endsLine line b then allButLast line ∷ ended [] s else ended (line ++ (b ∷ [])) s
 
--- What there is of a line after them.
+-- The partial line after them.
 abbrev pub begun : List ℕ → List ℕ → List ℕ
 begun line [] = line
 begun line (b ∷ s) = if endsLine line b then begun [] s else begun (line ++ (b ∷ [])) s
 
--- At the end of the input what there is of a line is the last line; nothing is no line.
+-- At the end of the input the partial line is the last line; an empty one is no line.
 abbrev pub lastLine : List ℕ → List (List ℕ)
 lastLine [] = []
 lastLine (b ∷ s) = (b ∷ s) ∷ []

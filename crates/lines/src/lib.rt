@@ -1,10 +1,19 @@
-// Where a line of the input ends, and what is held of one that is not at its end.
+// Where a line of the input ends, and what is held of a partial line.
 ghost use mathlib.Core.Path.{_≡_};
 ghost use mathlib.Core.List.{_++_};
 ghost use Prim.Native.Nat.{_+_, _-_, _≤_, _<_};
-ghost use lib.ListN.{length, take};
-ghost use Rattle.lines.specs.Held.{mostHeld, capped};
+ghost use lib.ListN.{length, take, drop};
+ghost use Rattle.lines.specs.Held.{mostHeld, Appended};
 ghost use Rattle.lines.specs.Ends.{byteBefore, EndsAfter};
+
+// The most bytes that a line may have, without its CRLF.
+const LONGEST_LINE: usize = 200;
+
+// The most bytes that are held of a partial line.
+pub const MOST_HELD: usize = LONGEST_LINE + 2;
+
+// The place of the last of them.
+const LAST_HELD: usize = MOST_HELD - 1;
 
 // The byte before the one at i, which is the given last one before the first.
 fn byte_before(last: u8, s: &[u8], i: usize) -> u8
@@ -17,8 +26,8 @@ fn byte_before(last: u8, s: &[u8], i: usize) -> u8
     s[i - 1]
 }
 
-// The offset of the first LF that ends a line, or the length where there is none. `last` is the last byte of what there is of the line before s, 0 where that is
-// nothing. Only at a LF is the byte before it looked at: most bytes are none.
+// The offset of the first LF that ends a line, or the length where there is none. `last` is the last byte of the partial line before s, 0 where that is empty.
+// Only at a LF is the byte before it looked at: most bytes are none.
 pub fn line_end(last: u8, s: &[u8]) -> usize
     ensures { λ i. ⌜ EndsAfter last (now (s .entry)) i ⌝ }
 {
@@ -36,10 +45,10 @@ pub fn line_end(last: u8, s: &[u8]) -> usize
     i
 }
 
-// Copies s into held from `at` on.
+// Copies s over the bytes from `at` on.
 fn copy(held: &mut [u8], at: usize, s: &[u8])
     requires { ⌜ at + length (now s) ≤ length (now held) ⌝ }
-    ensures { λ _. ⌜ take (at + length (now (s .entry))) (now (held .exit)) ≡ take at (now (held .entry)) ++ now (s .entry) ⌝ }
+    ensures { λ _. ⌜ now (held .exit) ≡ take at (now (held .entry)) ++ now (s .entry) ++ drop (at + length (now (s .entry))) (now (held .entry)) ⌝ }
 {
     let mut i = 0;
     while i < s.len() {
@@ -48,28 +57,28 @@ fn copy(held: &mut [u8], at: usize, s: &[u8])
     }
 }
 
-// Fills all but the last of the bytes that are held.
+// Adds to the first `count` bytes as many of s as fill all but the last of the bytes that are held.
 fn fill(held: &mut [u8], count: usize, s: &[u8])
     requires { ⌜ (length (now held) ≡ mostHeld) × (count ≤ mostHeld) × (mostHeld < count + length (now s)) ⌝ }
-    ensures { λ _. ⌜ take (mostHeld - 1) (now (held .exit)) ≡ take (mostHeld - 1) (take count (now (held .entry)) ++ now (s .entry)) ⌝ }
+    ensures { λ _. ⌜ now (held .exit) ≡ take (mostHeld - 1) (take count (now (held .entry)) ++ now (s .entry)) ++ drop (mostHeld - 1) (now (held .entry)) ⌝ }
 {
-    if count < 201 {
-        copy(held, count, &s[..201 - count]);
+    if count < LAST_HELD {
+        copy(held, count, &s[..LAST_HELD - count]);
         return;
     }
 }
 
-// Adds s to the first `count` bytes, as far as they are held, and answers how many there are then.
+// Adds s to the partial line in the first `count` bytes, as far as it is held, and answers how many bytes are held then.
 pub fn append(held: &mut [u8], count: usize, s: &[u8]) -> usize
     requires { ⌜ (length (now held) ≡ mostHeld) × (count ≤ mostHeld) ⌝ }
-    ensures { λ r. ⌜ (r ≤ mostHeld) × (take r (now (held .exit)) ≡ capped (take count (now (held .entry)) ++ now (s .entry))) ⌝ }
+    ensures { λ r. ⌜ Appended (now (held .entry)) count (now (s .entry)) (now (held .exit)) r ⌝ }
 {
-    let room = 202 - count;
+    let room = MOST_HELD - count;
     if s.len() <= room {
         copy(held, count, s);
         return count + s.len();
     }
     fill(held, count, s);
-    held[201] = s[s.len() - 1];
-    202
+    held[LAST_HELD] = s[s.len() - 1];
+    MOST_HELD
 }

@@ -1,13 +1,14 @@
 -- Where feeding stands between two lines, and what it has done where it returns.
 use mathlib.Core.Path.{_≡_, refl, sym, ap, _∙_, subst}
-use mathlib.Core.Bool.{Bool, true, false}
+use mathlib.Core.Bool.{Bool, true, false, not}
 use mathlib.Core.List.{List, [], _∷_, _++_, append-assoc, append-nil}
 use native.Mathlib.Omega.{arith}
 use Prim.Native.Nat.{ℕ, _+_, _-_, _≤_, _<_}
+use native.Mathlib.Decide.{decLt}
 use lib.Dec.{leb}
 use lib.ListN.{length, getD, take, drop, length-append, length-drop, take-append-drop, drop-of-length-le}
 use lib.Seq.{length-take-le, take-all, take-add, getD-take, getD-drop, drop-drop, take-append-seam, drop-append-seam}
-use borrow.Author.Tests.{leb-true, leb-false}
+use borrow.Author.Tests.{leb-true, leb-false, lt-ltb, le-ltb}
 use borrow.Rule.Slice.PartMut.{putMid}
 use Rattle.whole.specs.Choice.{if_then_else_}
 use Rattle.quantity.specs.Refusals.{numberOf}
@@ -20,13 +21,13 @@ use Rattle.list.specs.declared.feeding.Fed.{Fed}
 use Rattle.list.specs.declared.feeding.Reply.{Reply}
 use Rattle.lines.specs.Lines.{lastByte, allButLast, endsLine, ended, begun}
 use Rattle.lines.specs.Held.{mostHeld, capped}
-use Rattle.list.specs.Feeding.{Due, next, DueToAll, DueAtEnd, lineOf, FedAs}
+use Rattle.list.specs.Feeding.{Due, next, DueToAll, DueAtEnd, lineOf, codeOf, FedAs}
 use Rattle.lines.specs.Ends.{EndsAt}
 use Rattle.list.specs.Replies.{RepliedAs}
 use Rattle.lines.proofs.Lines.{front-take, ends-some, ended-append, begun-append, ended-one, begun-none, ended-before, begun-before, ends-here, begun-with, ended-with}
 use Rattle.lines.proofs.Capped.{capped-ends, capped-alike, alike-sym}
 use Rattle.list.proofs.Capped.{capped-front, capped-next, front-due}
-use Rattle.list.proofs.Dues.{due-more, due-small}
+use Rattle.list.proofs.Dues.{due-more}
 
 -- ---- a reply
 -- It is written,
@@ -34,45 +35,51 @@ pub record Written (g : Stage) (line out out′ : List ℕ) (x : Reply) : Type 0
   pub number : ℕ
   pub text : List ℕ
   pub due : Due g line number text
-  pub wrote : x .answer .wrote ≡ length text
+  pub wrote : x .placing .answer .wrote ≡ length text
   pub fits : length text ≤ length out
   pub bytes : out′ ≡ text ++ drop (length text) out
   pub later : x .stage ≡ next g line
 
 -- or there is no room for it.
-pub record Short (g : Stage) (line out out′ : List ℕ) : Type 0 where
+pub record Short (g : Stage) (line out out′ : List ℕ) (x : Reply) : Type 0 where
   pub number : ℕ
   pub text : List ℕ
   pub due : Due g line number text
+  pub code : x .placing .answer .code ≡ numberOf BufferShort
   pub no-room : length out < length text
   pub bytes : out′ ≡ out
 
+turned : (t u : Bool) → not t ≡ u → t ≡ not u
+turned true u h = ap not h
+turned false u h = ap not h
+
 module _ (g : Stage) (line out out′ : List ℕ) (x : Reply) where
-  pub replied-written : RepliedAs g line out out′ x → (x .answer .code ≡ numberOf BufferShort → ⊥) → Written g line out out′ x
-  replied-written (n, t, due, placed, later) h = by (leb (length t) (length out)) refl placed
-    where
-      by : (b : Bool) → leb (length t) (length out) ≡ b
-          → (if b then (x .answer ≡ record { code = n; wrote = length t }) × (out′ ≡ t ++ drop (length t) out) else (x .answer ≡ record { code = numberOf BufferShort; wrote = 0 }) × (out′ ≡ out))
-          → Written g line out out′ x
-      by true e (p, q) = record {
+  pub replied-written : RepliedAs g line out out′ x → not (x .placing .fitted) ≡ false → Written g line out out′ x
+  replied-written (n, t, due, (placed, told), later) h =
+      let room : leb (length t) (length out) ≡ true = sym told ∙ turned (x .placing .fitted) false h in
+      let p : (x .placing .answer ≡ record { code = n; wrote = length t }) × (out′ ≡ t ++ drop (length t) out) = rw room at placed in
+      record {
         number = n;
         text = t;
         due = due;
-        wrote = ap (λ (a : LineAnswer). a .wrote) p;
-        fits = leb-true (length t) (length out) e;
-        bytes = q;
+        wrote = ap (λ (a : LineAnswer). a .wrote) (p .0);
+        fits = leb-true (length t) (length out) room;
+        bytes = p .1;
         later = later;
       }
-      by false e (p, q) = absurd (h (ap (λ (a : LineAnswer). a .code) p))
 
-  pub replied-short : RepliedAs g line out out′ x → x .answer .code ≡ numberOf BufferShort → Short g line out out′
-  replied-short (n, t, due, placed, later) h = by (leb (length t) (length out)) refl placed
-    where
-      by : (b : Bool) → leb (length t) (length out) ≡ b
-          → (if b then (x .answer ≡ record { code = n; wrote = length t }) × (out′ ≡ t ++ drop (length t) out) else (x .answer ≡ record { code = numberOf BufferShort; wrote = 0 }) × (out′ ≡ out))
-          → Short g line out out′
-      by true e (p, q) = absurd (let c : x .answer .code ≡ n = ap (λ (a : LineAnswer). a .code) p in omega (arith, due-small g line n t due .number))
-      by false e (p, q) = record { number = n; text = t; due = due; no-room = leb-false (length t) (length out) e; bytes = q }
+  pub replied-short : RepliedAs g line out out′ x → not (x .placing .fitted) ≡ true → Short g line out out′ x
+  replied-short (n, t, due, (placed, told), later) h =
+      let short : leb (length t) (length out) ≡ false = sym told ∙ turned (x .placing .fitted) true h in
+      let p : (x .placing .answer ≡ record { code = numberOf BufferShort; wrote = 0 }) × (out′ ≡ out) = rw short at placed in
+      record {
+        number = n;
+        text = t;
+        due = due;
+        code = ap (λ (a : LineAnswer). a .code) (p .0);
+        no-room = leb-false (length t) (length out) short;
+        bytes = p .1;
+      }
 
 -- ---- between two lines
 -- So much of the chunk is used and so much of the buffer written: what is due to the lines that ended, and no line is begun.
@@ -100,10 +107,25 @@ pub at-long : {st : State} {chunk out₀ out : List ℕ} {g : Stage} {from at : 
 at-long {st} {chunk} {out₀} {out} a =
     ap length (a .bytes) ∙ length-append (a .text) (drop (length (a .text)) out₀) ∙ omega (arith, length-drop (length (a .text)) out₀, a .fits)
 
+-- the code where no byte of the chunk is left, and where some are
+code-none : (used bytes : ℕ) → bytes ≤ used → codeOf used bytes ≡ 0
+code-none used bytes h = rw (le-ltb used bytes h)
+
+code-some : (used bytes : ℕ) → used < bytes → codeOf used bytes ≡ numberOf BufferShort
+code-some used bytes h = rw (lt-ltb used bytes h)
+
+-- the same after the first bytes of the chunk
+code-on : (used rest first bytes : ℕ) → first + rest ≡ bytes → codeOf used rest ≡ codeOf (first + used) bytes
+code-on used rest first bytes e =
+    elim (decLt used rest) [
+      | yes h ↦ code-some used rest h ∙ sym (code-some (first + used) bytes (omega arith))
+      | no h ↦ code-none used rest (omega (arith, h)) ∙ sym (code-none (first + used) bytes (omega (arith, h)))
+    ]
+
 -- all of the chunk is used
 pub fed-all : {st : State} {chunk out₀ out : List ℕ} {g : Stage} {from at : ℕ} (held : List ℕ) → At st chunk out₀ out g from at → length chunk ≤ from
-    → FedAs st chunk out₀ out (record { state = record { held = held; count = 0; stage = g }; used = from; wrote = at })
-fed-all {st} {chunk} held a h = record {
+    → FedAs st chunk out₀ out (record { state = record { held = held; count = 0; stage = g }; used = from; wrote = at; code = 0 })
+fed-all {st} {chunk} {from = from} held a h = record {
   within = a .within;
   text = a .text;
   due = a .due;
@@ -112,6 +134,7 @@ fed-all {st} {chunk} held a h = record {
   written = a .bytes;
   held = sym (ap capped (a .nothing));
   full = λ k. absurd (omega arith);
+  code = sym (code-none from (length chunk) h);
 }
 
 module _ {st : State} {chunk out₀ out : List ℕ} {g : Stage} {from at i : ℕ} (a : At st chunk out₀ out g from at)
@@ -121,7 +144,7 @@ module _ {st : State} {chunk out₀ out : List ℕ} {g : Stage} {from at i : ℕ
 
   -- a line is begun that the chunk does not end
   pub fed-begun : (held : List ℕ) (count : ℕ) → take count held ≡ capped (take i (drop from chunk)) → from + i ≡ length chunk
-      → FedAs st chunk out₀ out (record { state = record { held = held; count = count; stage = g }; used = from + i; wrote = at })
+      → FedAs st chunk out₀ out (record { state = record { held = held; count = count; stage = g }; used = from + i; wrote = at; code = 0 })
   fed-begun held count e n = record {
     within = omega arith;
     text = a .text;
@@ -131,6 +154,7 @@ module _ {st : State} {chunk out₀ out : List ℕ} {g : Stage} {from at i : ℕ
     written = a .bytes;
     held = e ∙ ap capped (sym begun-is);
     full = λ k. absurd (omega arith);
+    code = sym (code-none (from + i) (length chunk) (omega arith));
   }
 
   module _ (more : from + i < length chunk) where
@@ -138,10 +162,10 @@ module _ {st : State} {chunk out₀ out : List ℕ} {g : Stage} {from at i : ℕ
     front-is = ap (λ (l : List ℕ). allButLast (l ++ take i (drop from chunk))) (a .nothing) ∙ front-take i (drop from chunk) (end .within)
 
     -- the buffer has no room for the next line's answer
-    pub fed-full : (held : List ℕ) (count : ℕ) (out′ part : List ℕ) → take count held ≡ capped (take i (drop from chunk))
-        → Short g (take (i - 1) (drop from chunk)) (drop at out) part → out′ ≡ take at out ++ part
-        → FedAs st chunk out₀ out′ (record { state = record { held = held; count = count; stage = g }; used = from + i; wrote = at })
-    fed-full held count out′ part e short o =
+    pub fed-full : (held : List ℕ) (count : ℕ) (out′ part : List ℕ) (x : Reply) → take count held ≡ capped (take i (drop from chunk))
+        → Short g (take (i - 1) (drop from chunk)) (drop at out) part x → out′ ≡ take at out ++ part
+        → FedAs st chunk out₀ out′ (record { state = record { held = held; count = count; stage = g }; used = from + i; wrote = at; code = x .placing .answer .code })
+    fed-full held count out′ part x e short o =
         let line : take count held ≡ capped (begun (lineOf st) (take (from + i) chunk)) = e ∙ ap capped (sym begun-is) in
         record {
           within = omega arith;
@@ -161,11 +185,12 @@ module _ {st : State} {chunk out₀ out : List ℕ} {g : Stage} {from at i : ℕ
                 (subst (λ (l : List ℕ). Due g l (short .number) (short .text)) (sym (front-take i (drop from chunk) (end .within))) (short .due)));
             no-room = omega (arith, short .no-room, length-drop at out, at-long a);
           };
+          code = short .code ∙ sym (code-some (from + i) (length chunk) more);
         }
 
     -- the next line is answered
     pub at-more : (out′ part : List ℕ) (x : Reply) → Written g (take (i - 1) (drop from chunk)) (drop at out) part x → out′ ≡ take at out ++ part
-        → At st chunk out₀ out′ (x .stage) (from + i + 1) (at + x .answer .wrote)
+        → At st chunk out₀ out′ (x .stage) (from + i + 1) (at + x .placing .answer .wrote)
     at-more out′ part x w o =
         let long : length (a .text ++ w .text) ≡ length (a .text) + length (w .text) = length-append (a .text) (w .text) in
         let first : take at out ≡ a .text = ap (take at) (a .bytes) ∙ ap (λ (n : ℕ). take n (a .text ++ drop (length (a .text)) out₀)) (a .at-is) ∙ take-append-seam (a .text) (drop (length (a .text)) out₀) in
@@ -196,7 +221,7 @@ held-is held count n long e = by (leb count mostHeld) refl e
     by false t e =
         (omega arith, take-all count held (omega (arith, leb-false count mostHeld t)) ∙ sym (take-all n held (omega arith)))
 
--- what there is of a line at the end of the input is the last line
+-- the partial line at the end of the input is the last line
 pub due-last : (g : Stage) (line : List ℕ) (n : ℕ) (t : List ℕ) → 1 ≤ length line → Due g line n t → DueAtEnd g line n t
 due-last g [] n t h d = absurd (omega arith)
 due-last Header (b ∷ s) n t h d = d
@@ -229,7 +254,7 @@ module _ (st : State) (chunk out : List ℕ) (i : ℕ) (held : List ℕ) (count 
   nothing-due = subst (λ (ls : List (List ℕ)). DueToAll (st .stage) ls [] (st .stage)) (sym (end .before)) (refl, refl)
 
   -- the chunk does not end it
-  pub held-begun : i ≡ length chunk → FedAs st chunk out out (record { state = record { held = held; count = count; stage = st .stage }; used = i; wrote = 0 })
+  pub held-begun : i ≡ length chunk → FedAs st chunk out out (record { state = record { held = held; count = count; stage = st .stage }; used = i; wrote = 0; code = 0 })
   held-begun e = record {
     within = omega arith;
     text = [];
@@ -239,6 +264,7 @@ module _ (st : State) (chunk out : List ℕ) (i : ℕ) (held : List ℕ) (count 
     written = refl;
     held = capped-is;
     full = λ k. absurd (omega arith);
+    code = sym (code-none i (length chunk) (omega arith));
   }
 
   module _ (more : i < length chunk) where
@@ -250,9 +276,9 @@ module _ (st : State) (chunk out : List ℕ) (i : ℕ) (held : List ℕ) (count 
     some-held = ends-some (take count held) (getD chunk i 0) ends-line
 
     -- the buffer has no room for its answer
-    pub held-full : (out′ : List ℕ) → Short (st .stage) (allButLast (take count held)) out out′
-        → FedAs st chunk out out′ (record { state = record { held = held; count = count; stage = st .stage }; used = i; wrote = 0 })
-    held-full out′ short = record {
+    pub held-full : (out′ : List ℕ) (x : Reply) → Short (st .stage) (allButLast (take count held)) out out′ x
+        → FedAs st chunk out out′ (record { state = record { held = held; count = count; stage = st .stage }; used = i; wrote = 0; code = x .placing .answer .code })
+    held-full out′ x short = record {
       within = omega arith;
       text = [];
       due = nothing-due;
@@ -261,15 +287,16 @@ module _ (st : State) (chunk out : List ℕ) (i : ℕ) (held : List ℕ) (count 
       written = short .bytes;
       held = capped-is;
       full = λ k. record { ends = ends-line; number = short .number; text = short .text; due = short .due; no-room = omega (arith, short .no-room) };
+      code = short .code ∙ sym (code-some i (length chunk) more);
     }
 
     -- it is answered, and the rest of the chunk is fed into the rest of the buffer
     pub held-rest : (out₁ out′ part held′ : List ℕ) (r : Reply) (y : Fed) → Written (st .stage) (allButLast (take count held)) out out₁ r
-        → FedAs (record { held = held′; count = 0; stage = r .stage }) (drop (i + 1) chunk) (drop (r .answer .wrote) out₁) part y → out′ ≡ take (r .answer .wrote) out₁ ++ part
-        → FedAs st chunk out out′ (record { state = y .state; used = i + 1 + y .used; wrote = r .answer .wrote + y .wrote })
+        → FedAs (record { held = held′; count = 0; stage = r .stage }) (drop (i + 1) chunk) (drop (r .placing .answer .wrote) out₁) part y → out′ ≡ take (r .placing .answer .wrote) out₁ ++ part
+        → FedAs st chunk out out′ (record { state = y .state; used = i + 1 + y .used; wrote = r .placing .answer .wrote + y .wrote; code = y .code })
     held-rest out₁ out′ part held′ r y w f o =
         let line = lineOf st ++ take i chunk in
-        let n = r .answer .wrote in
+        let n = r .placing .answer .wrote in
         let first-due : Due (st .stage) (allButLast line) (w .number) (w .text) =
         capped-front line (st .stage) (w .number) (w .text) (subst (λ (l : List ℕ). Due (st .stage) (allButLast l) (w .number) (w .text)) line-is (w .due)) in
         let later : r .stage ≡ next (st .stage) (allButLast line) = w .later ∙ ap (λ (l : List ℕ). next (st .stage) (allButLast l)) line-is ∙ capped-next line (st .stage) in
@@ -311,6 +338,7 @@ module _ (st : State) (chunk out : List ℕ) (i : ℕ) (held : List ℕ) (count 
                 due = g .due;
                 no-room = omega (arith, g .no-room, length-drop n out₁, out-long, w .wrote, w .fits);
               };
+          code = f .code ∙ code-on (y .used) (length (drop (i + 1) chunk)) (i + 1) (length chunk) (omega (arith, length-drop (i + 1) chunk, more));
         }
 
 pub last-held : (held : List ℕ) (n : ℕ) → 1 ≤ n → n ≤ length held → lastByte (take n held) ≡ getD held (n - 1) 0

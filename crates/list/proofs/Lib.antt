@@ -1,3 +1,4 @@
+-- The proofs about a list.
 pub mod Same
 pub mod Capped
 pub mod Dues

@@ -16,7 +16,7 @@ use Rattle.list.specs.declared.feeding.Fed.{Fed}
 use Rattle.lines.specs.Lines.{allButLast, endsLine, ended, begun, lines}
 use Rattle.list.specs.Lists.{same, inputHeader, outputHeader, RowsAnswered, HeaderAnswered, LinesAnswered}
 use Rattle.lines.specs.Held.{capped}
-use Rattle.list.specs.Feeding.{Due, DueToAll, lineOf, FedAs}
+use Rattle.list.specs.Feeding.{Due, DueToAll, lineOf, codeOf, FedAs}
 use Rattle.list.specs.Promised.{OneList, OneFeeding, OneEnding}
 use Rattle.lines.proofs.Lines.{ended-append}
 use Rattle.lines.proofs.Capped.{capped-ends}
@@ -87,6 +87,7 @@ one-feeding st chunk out out′ out″ x y f g =
       bytes = f .written ∙ ap (λ (t : List ℕ). t ++ drop (length t) out) (one .0) ∙ sym (g .written);
       used = used;
       wrote = f .wrote ∙ ap length (one .0) ∙ sym (g .wrote);
+      code = f .code ∙ ap (λ (n : ℕ). codeOf n (length chunk)) used ∙ sym (g .code);
       stage = one .1;
       held = f .held ∙ ap (λ (n : ℕ). capped (begun (lineOf st) (take n chunk))) used ∙ sym (g .held);
     }

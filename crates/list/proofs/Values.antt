@@ -4,40 +4,47 @@ use mathlib.Core.Option.{some}
 use mathlib.Core.List.{List, [], _∷_}
 use native.Mathlib.Omega.{arith}
 use Prim.Native.Nat.{ℕ}
-use lib.IntN.{pos}
+use lib.IntN.{ℤ, pos}
 use Rattle.whole.specs.Text.{ascii}
-use Rattle.polynomial.specs.Polynomial.{rounded}
-use Rattle.scale.specs.declared.law.Law.the-variants.{Curve, Scale}
-use Rattle.scale.specs.declared.subrange.Subrange.the-variants.{Ag}
-use Rattle.scale.specs.Deviation.{x, δ, keeps, plainDeviation}
+use Rattle.exact.specs.Polynomial.{rounded}
+use Rattle.law.specs.declared.laws.Law.the-variants.{Curve, Scale}
+use Rattle.law.specs.declared.subrange.Subrange.the-variants.{Ag}
+use Rattle.law.specs.declared.laws.Law.{Law}
+use Rattle.law.specs.Answers.{LawAndStep, noStep}
+use Rattle.quantity.specs.Outcomes.{Outcome, answered, refused, Follows}
+use Rattle.deviation.specs.declared.places.Places.{Places}
+use Rattle.deviation.specs.Limits.{x, δ, keeps}
 use Rattle.reference.specs.Reference.{working}
 use Rattle.curve.specs.Curve.{exact, quadratic, quartic, units}
-use Rattle.certificate.specs.declared.certificate.Certificate.{Certificate}
-use Rattle.certificate.specs.Certificate.{certificateOf}
-use Rattle.deviation.specs.Working.{hasDTerm, z, dTerm, deviation, Wr}
-use Rattle.reading.specs.Reading.{refused, ReadNamed}
+use Rattle.certificate.specs.declared.soundness.Given.{Given}
+use Rattle.deviation.specs.Working.{plainDeviation, hasDTerm, z, dTerm, deviation, Wr}
+use Rattle.reading.specs.Reading.{readGiven}
 use Rattle.reading.proofs.Tests.{step-passes}
-use Rattle.scale.specs.Names.{spelled}
+use Rattle.law.specs.Names.{spelled}
 use Rattle.line.specs.Decimal.{decimal}
 use Rattle.line.specs.Answer.{Answered}
 use Rattle.line.proofs.Decimals.{decimal-one, decimal-more}
 use Rattle.list.specs.Lists.{ListAnswered}
 
-abbrev byCurve : Certificate
-byCurve = certificateOf Curve (pos 0) (pos 0) (pos 0) (pos 0) 0
+-- the certificates of zeros
+abbrev zeros : ℕ → Places
+zeros wal = record { a = pos 0; b = pos 0; c = pos 0; d = pos 0; wal = record { 0 = wal } }
 
-read-F1 : ReadNamed (spelled "curve") (pos 0) (pos 0) (pos 0) (pos 0) 0 138_505_500_000 100_000_000_000 (record { code = 0; law = some Curve; step = pos 1_000_000 })
+abbrev given : ℕ → ℕ → Given
+given law wal = record { law = record { 0 = law }; places = zeros wal }
+
+abbrev at : Law → ℤ → Outcome LawAndStep
+at law t = answered (record { law = some law; step = t })
+
+read-F1 : Follows (readGiven (given (spelled "curve") 0) 138_505_500_000 100_000_000_000) (at Curve (pos 1_000_000))
 unfolding exact quadratic quartic units
-read-F1 = step-passes byCurve 1_385_055_000 (pos 1_000_000) refl
+read-F1 = step-passes Curve (zeros 0) 1_385_055_000 (pos 1_000_000) refl
 
-abbrev byAg : Certificate
-byAg = certificateOf (Scale Ag) (pos 0) (pos 0) (pos 0) (pos 0) 3_376_008_600
-
-read-F2 : ReadNamed (spelled "ag") (pos 0) (pos 0) (pos 0) (pos 0) 3_376_008_600 69_539_313_500 25_000_000_000 (record { code = 0; law = some (Scale Ag); step = pos 4_810_000 })
+read-F2 : Follows (readGiven (given (spelled "ag") 3_376_008_600) 69_539_313_500 25_000_000_000) (at (Scale Ag) (pos 4_810_000))
 unfolding working rounded Wr deviation plainDeviation dTerm hasDTerm z x δ keeps
-read-F2 = step-passes byAg 2_781_572_540 (pos 4_810_000) refl
+read-F2 = step-passes (Scale Ag) (zeros 3_376_008_600) 2_781_572_540 (pos 4_810_000) refl
 
-read-F3 : ReadNamed (spelled "zn") (pos 0) (pos 0) (pos 0) (pos 0) 0 69_539_313_500 25_000_000_000 (refused 9)
+read-F3 : Follows (readGiven (given (spelled "zn") 0) 69_539_313_500 25_000_000_000) (refused noStep 9)
 unfolding working rounded Wr deviation plainDeviation dTerm hasDTerm z x
 read-F3 = refl
 
@@ -58,15 +65,15 @@ digits-of-F2 = rw (decimal-more 4_810_000 (omega arith), decimal-more 481_000 (o
 
 answer-F1 : Answered F1 0 (ascii "F1,curve,1000000,0\r\n")
 unfolding F1
-answer-F1 = (record { code = 0; law = some Curve; step = pos 1_000_000 }, read-F1, refl, rw (digits-of-F1, decimal-one 0 (omega arith)))
+answer-F1 = (at Curve (pos 1_000_000), read-F1, refl, rw (digits-of-F1, decimal-one 0 (omega arith)))
 
 answer-F2 : Answered F2 0 (ascii "F2,ag,4810000,0\r\n")
 unfolding F2
-answer-F2 = (record { code = 0; law = some (Scale Ag); step = pos 4_810_000 }, read-F2, refl, rw (digits-of-F2, decimal-one 0 (omega arith)))
+answer-F2 = (at (Scale Ag) (pos 4_810_000), read-F2, refl, rw (digits-of-F2, decimal-one 0 (omega arith)))
 
 answer-F3 : Answered F3 9 (ascii "F3,zn,,9\r\n")
 unfolding F3
-answer-F3 = (refused 9, read-F3, refl, rw (decimal-one 9 (omega arith)))
+answer-F3 = (refused noStep 9, read-F3, refl, rw (decimal-one 9 (omega arith)))
 
 pub example : ListAnswered
     (ascii "id,law,r,r0,a,b,c,d,wal\r\nF1,curve,138505500000,100000000000,0,0,0,0,0\r\nF2,ag,69539313500,25000000000,0,0,0,0,3376008600\r\nF3,zn,69539313500,25000000000,0,0,0,0,0\r\n")

@@ -28,7 +28,7 @@ use Rattle.lines.proofs.Capped.{capped-alike, alike-begun}
 use Rattle.list.proofs.Capped.{alike-at-end, capped-all}
 use Rattle.list.proofs.Dues.{due-append, due-small, at-end-small}
 
--- What is due to all lines of an input, from a stage and what there is of a line on.
+-- What is due to all lines of an input, from a stage and a partial line on.
 pub record Said (g : Stage) (line input output : List ℕ) : Type 0 where
   pub later : Stage
   pub text : List ℕ

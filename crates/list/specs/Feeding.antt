@@ -3,6 +3,7 @@ use mathlib.Core.Path.{_≡_}
 use mathlib.Core.Bool.{true}
 use mathlib.Core.List.{List, [], _∷_, _++_}
 use Prim.Native.Nat.{ℕ, _+_, _≤_, _<_}
+use lib.Dec.{ltb}
 use lib.ListN.{length, getD, take, drop}
 use Rattle.whole.specs.Choice.{if_then_else_}
 use Rattle.quantity.specs.Refusals.{numberOf}
@@ -44,12 +45,12 @@ DueToNone Header number text = (number ≡ numberOf IllFormed) × (text ≡ wron
 DueToNone Rows number text = (number ≡ 0) × (text ≡ [])
 DueToNone Stopped number text = (number ≡ 0) × (text ≡ [])
 
--- What is due where the input ends. What there is of a line is the last line; nothing is no line.
+-- What is due where the input ends. The partial line is the last line; an empty one is no line.
 abbrev pub DueAtEnd : Stage → List ℕ → ℕ → List ℕ → Type 0
 DueAtEnd stage [] = DueToNone stage
 DueAtEnd stage (b ∷ s) = Due stage (b ∷ s)
 
--- What is held of a line, of which there may be more.
+-- What is held of the partial line, of which there may be more.
 abbrev pub lineOf : State → List ℕ
 lineOf st = take (st .count) (st .held)
 
@@ -61,9 +62,14 @@ pub record Full (st : State) (b wrote bytes : ℕ) : Type 0 where
   pub due : Due (st .stage) (allButLast (lineOf st)) number text
   pub no-room : bytes < wrote + length text
 
+-- The code of a feeding: 11 where bytes of the chunk are left, else 0.
+abbrev pub codeOf : ℕ → ℕ → ℕ
+codeOf used bytes = if ltb used bytes then numberOf BufferShort else 0
+
 -- What feeding a chunk promises, `out` being the lent buffer before and `out′` after. So many bytes of the chunk are used. What is due to the lines that end
 -- within them is written at the start of the buffer, and its other bytes stay. The new state has the stage after those lines and holds, as far as it is
--- held, what there is of the next. All bytes are used unless the buffer is full.
+-- held, the partial line after them. All bytes are used and the code is 0, unless the next byte ends a line whose answer the buffer has no room for: then the
+-- code is 11.
 pub record FedAs (st : State) (chunk out out′ : List ℕ) (x : Fed) : Type 0 where
   pub within : x .used ≤ length chunk
   pub text : List ℕ
@@ -73,6 +79,7 @@ pub record FedAs (st : State) (chunk out out′ : List ℕ) (x : Fed) : Type 0 w
   pub written : out′ ≡ text ++ drop (length text) out
   pub held : lineOf (x .state) ≡ capped (begun (lineOf st) (take (x .used) chunk))
   pub full : x .used < length chunk → Full (x .state) (getD chunk (x .used) 0) (x .wrote) (length out)
+  pub code : x .code ≡ codeOf (x .used) (length chunk)
 
 -- What ending the input promises: what is still due is written, with its number, or 11 and every byte stays.
 abbrev pub EndedWith : Stage → List ℕ → List ℕ → List ℕ → LineAnswer → Type 0

@@ -1,3 +1,4 @@
+-- The definitions about a list.
 pub mod Lists
 pub mod Feeding
 pub mod Replies

@@ -25,11 +25,12 @@ EveryCutting = (st : State) (input output : List ℕ) → Start st → Run st in
 abbrev pub OneList : Type 0
 OneList = (input output output′ : List ℕ) → ListAnswered input output → ListAnswered input output′ → output ≡ output′
 
--- Two outcomes that feeding allows are one: bytes, counts, stage, and what is held of a line.
+-- Two outcomes that feeding allows are one: bytes, counts, code, stage, and what is held of the partial line.
 pub record SameFed (out′ out″ : List ℕ) (x y : Fed) : Type 0 where
   pub bytes : out′ ≡ out″
   pub used : x .used ≡ y .used
   pub wrote : x .wrote ≡ y .wrote
+  pub code : x .code ≡ y .code
   pub stage : x .state .stage ≡ y .state .stage
   pub held : lineOf (x .state) ≡ lineOf (y .state)
 

@@ -2,7 +2,7 @@
 use mathlib.Core.Path.{_≡_}
 use mathlib.Core.List.{List}
 use Prim.Native.Nat.{ℕ}
-use Rattle.line.specs.Lent.{Placed}
+use Rattle.line.specs.Lent.{PlacedAs}
 use Rattle.list.specs.declared.state.Stage.{Stage}
 use Rattle.list.specs.declared.feeding.Reply.{Reply}
 use Rattle.list.specs.Feeding.{Due, next}
@@ -10,4 +10,4 @@ use Rattle.list.specs.Feeding.{Due, next}
 -- What answering a line at a stage promises.
 abbrev pub RepliedAs : Stage → List ℕ → List ℕ → List ℕ → Reply → Type 0
 RepliedAs stage line out out′ x =
-    (number : ℕ) × (text : List ℕ) × Due stage line number text × Placed number text out out′ (x .answer) × (x .stage ≡ next stage line)
+    (number : ℕ) × (text : List ℕ) × Due stage line number text × PlacedAs number text out out′ (x .placing) × (x .stage ≡ next stage line)

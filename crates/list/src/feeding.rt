@@ -5,7 +5,9 @@ ghost use Prim.Native.Nat.{_≤_};
 ghost use lib.Dec.{leb};
 ghost use lib.ListN.{take};
 ghost use Rattle.whole.specs.Choice.{if_then_else_};
-ghost use Rattle.line.specs.Lent.{Placed};
+ghost use Rattle.quantity.specs.Refusals.{numberOf};
+ghost use Rattle.quantity.specs.declared.refusal.Refusal.the-variants.{IllFormed};
+ghost use Rattle.line.specs.Lent.{PlacedAs};
 ghost use Rattle.list.specs.Lists.{wrongHeader};
 ghost use Rattle.lines.specs.Held.{mostHeld};
 ghost use Rattle.list.specs.Feeding.{lineOf, FedAs, EndedWith, EndedAs};
@@ -14,27 +16,30 @@ use crate::header;
 use crate::state::Stage;
 use crate::state::State;
 use line::LineAnswer;
+use line::Placing;
+use lines::MOST_HELD;
+use quantity::Refusal;
 
-// What a feeding did: the new state, how many bytes of the chunk it used and how many of the buffer it wrote.
+// What a feeding did: the new state, how many bytes of the chunk it used and how many of the buffer it wrote, and the code: 11 where it left bytes of the chunk
+// because the buffer was too short for a line's answer, else 0.
 pub struct Fed {
     pub state: State,
     pub used: usize,
     pub wrote: usize,
+    pub code: u8,
 }
 
 // What was answered to a line, and what comes after it.
 pub struct Reply {
-    pub answer: LineAnswer,
+    pub placing: Placing,
     pub stage: Stage,
 }
 
-// The number of a buffer that is too short.
-const NO_ROOM: u8 = 11;
-
-fn wrong_header(out: &mut [u8]) -> LineAnswer
-    ensures { λ r. ⌜ Placed 10 wrongHeader (now (out .entry)) (now (out .exit)) r ⌝ }
+fn wrong_header(out: &mut [u8]) -> Placing
+    ensures { λ r. ⌜ PlacedAs (numberOf IllFormed) wrongHeader (now (out .entry)) (now (out .exit)) r ⌝ }
 {
-    line::place(10, b"id,law,t,code\r\n?,?,,10\r\n", out)
+    let number = Refusal::IllFormed.number();
+    line::place(number, b"id,law,t,code\r\n?,?,,10\r\n", out)
 }
 
 fn header_reply(line: &[u8], out: &mut [u8]) -> Reply
@@ -42,12 +47,12 @@ fn header_reply(line: &[u8], out: &mut [u8]) -> Reply
 {
     if header::is_header(line) {
         return Reply {
-            answer: line::place(0, b"id,law,t,code\r\n", out),
+            placing: line::place(0, b"id,law,t,code\r\n", out),
             stage: Stage::Rows,
         };
     }
     Reply {
-        answer: wrong_header(out),
+        placing: wrong_header(out),
         stage: Stage::Stopped,
     }
 }
@@ -58,11 +63,14 @@ fn reply_to(stage: Stage, line: &[u8], out: &mut [u8]) -> Reply
     match stage {
         Stage::Header => header_reply(line, out),
         Stage::Rows => Reply {
-            answer: line::answer(line, out),
+            placing: line::place_answer(line, out),
             stage: Stage::Rows,
         },
         Stage::Stopped => Reply {
-            answer: LineAnswer { code: 0, wrote: 0 },
+            placing: Placing {
+                answer: LineAnswer { code: 0, wrote: 0 },
+                fitted: true,
+            },
             stage: Stage::Stopped,
         },
     }
@@ -85,19 +93,21 @@ fn feed_lines(first: State, chunk: &[u8], out: &mut [u8]) -> Fed
                 state: State { held, count, stage },
                 used: end,
                 wrote: at,
+                code: 0,
             };
         }
         let r = reply_to(stage, &chunk[from..end - 1], &mut out[at..]);
-        let x = r.answer;
-        if x.code == NO_ROOM {
+        let x = r.placing;
+        if !x.fitted {
             let count = lines::append(&mut held, 0, &chunk[from..end]);
             return Fed {
                 state: State { held, count, stage },
                 used: end,
                 wrote: at,
+                code: x.answer.code,
             };
         }
-        at += x.wrote;
+        at += x.answer.wrote;
         stage = r.stage;
         from = end + 1;
     }
@@ -106,6 +116,7 @@ fn feed_lines(first: State, chunk: &[u8], out: &mut [u8]) -> Fed
         state: State { held, count, stage },
         used: from,
         wrote: at,
+        code: 0,
     }
 }
 
@@ -113,13 +124,13 @@ fn feed_lines(first: State, chunk: &[u8], out: &mut [u8]) -> Fed
 fn held_count(count: usize) -> usize
     ensures { λ r. ⌜ r ≡ (if leb count mostHeld then count else mostHeld) ⌝ }
 {
-    if count <= 202 {
+    if count <= MOST_HELD {
         return count;
     }
-    202
+    MOST_HELD
 }
 
-// Feeds a chunk where the first `begun` bytes held are what there is of a line.
+// Feeds a chunk where the first `begun` bytes are what is held of a partial line.
 fn feed_held(state: State, begun: usize, chunk: &[u8], out: &mut [u8]) -> Fed
     requires { ⌜ (1 ≤ begun) × (begun ≤ mostHeld) × (lineOf state ≡ take begun (state .held)) ⌝ }
     ensures { λ r. ⌜ FedAs state (now (chunk .entry)) (now (out .entry)) (now (out .exit)) r ⌝ }
@@ -128,22 +139,27 @@ fn feed_held(state: State, begun: usize, chunk: &[u8], out: &mut [u8]) -> Fed
     let stage = state.stage;
     let end = lines::line_end(held[begun - 1], chunk);
     let count = lines::append(&mut held, begun, &chunk[..end]);
-    let unanswered = Fed {
-        state: State { held, count, stage },
-        used: end,
-        wrote: 0,
-    };
     if end == chunk.len() {
-        return unanswered;
+        return Fed {
+            state: State { held, count, stage },
+            used: end,
+            wrote: 0,
+            code: 0,
+        };
     }
     let r = reply_to(stage, &held[..count - 1], out);
-    let x = r.answer;
-    if x.code == NO_ROOM {
-        return unanswered;
+    let x = r.placing;
+    if !x.fitted {
+        return Fed {
+            state: State { held, count, stage },
+            used: end,
+            wrote: 0,
+            code: x.answer.code,
+        };
     }
     let next = r.stage;
     let from = end + 1;
-    let at = x.wrote;
+    let at = x.answer.wrote;
     let rest = feed_lines(
         State {
             held,
@@ -154,10 +170,13 @@ fn feed_held(state: State, begun: usize, chunk: &[u8], out: &mut [u8]) -> Fed
         &mut out[at..],
     );
     let last = rest.state;
+    let used = from + rest.used;
+    let wrote = at + rest.wrote;
     Fed {
         state: last,
-        used: from + rest.used,
-        wrote: at + rest.wrote,
+        used,
+        wrote,
+        code: rest.code,
     }
 }
 
@@ -177,7 +196,10 @@ fn nothing_begun(stage: Stage, out: &mut [u8]) -> LineAnswer
     ensures { λ r. ⌜ EndedWith stage [] (now (out .entry)) (now (out .exit)) r ⌝ }
 {
     match stage {
-        Stage::Header => wrong_header(out),
+        Stage::Header => {
+            let x = wrong_header(out);
+            x.answer
+        }
         Stage::Rows => LineAnswer { code: 0, wrote: 0 },
         Stage::Stopped => LineAnswer { code: 0, wrote: 0 },
     }
@@ -194,5 +216,6 @@ pub fn finish(state: State, out: &mut [u8]) -> LineAnswer
     }
     let held = state.held;
     let r = reply_to(stage, &held[..count], out);
-    r.answer
+    let x = r.placing;
+    x.answer
 }

@@ -1,3 +1,4 @@
+// The header of the input.
 ghost use mathlib.Core.Path.{_≡_};
 ghost use Rattle.list.specs.Lists.{same, inputHeader};
 

@@ -1,4 +1,6 @@
+// What is carried from chunk to chunk of a list.
 ghost use Rattle.list.specs.Promised.{Start};
+use lines::MOST_HELD;
 
 // What is due to the next line: it is the header, it is a row, or nothing is read any more.
 pub enum Stage {
@@ -7,9 +9,9 @@ pub enum Stage {
     Stopped,
 }
 
-// What is carried from chunk to chunk: what there is of a line, in the first `count` bytes, and the stage. A `count` past the array is its length.
+// What is held of a partial line, in the first `count` bytes, and the stage. A `count` past the array is its length.
 pub struct State {
-    pub held: [u8; 202],
+    pub held: [u8; MOST_HELD],
     pub count: usize,
     pub stage: Stage,
 }
@@ -19,7 +21,7 @@ pub fn start() -> State
     ensures { λ r. ⌜ Start r ⌝ }
 {
     State {
-        held: [0u8; 202],
+        held: [0u8; MOST_HELD],
         count: 0,
         stage: Stage::Header,
     }

@@ -1,1 +1,2 @@
+-- The definitions of `purity`.
 pub mod Purity

@@ -1,4 +1,6 @@
+-- What is proved of the definitions of `quantity`.
+pub mod Refusals
+pub mod Outcomes
+pub mod Ratios
 pub mod Division
-pub mod Answered
-pub mod Unique
 pub mod Values

@@ -1,26 +1,27 @@
 -- Ratios that the checker computes: bench card 9, and both sides of each limit.
-use mathlib.Core.Path.{_≡_, refl}
-use Rattle.quantity.specs.RatioAnswer.{ratioAnswer}
+use mathlib.Core.Path.{refl}
+use Rattle.quantity.specs.Outcomes.{answered, refused, Follows}
+use Rattle.quantity.specs.Ratios.{ratioRule}
 
-six-units : ratioAnswer 2 300_000_000 ≡ record { code = 0; ratio = 6 }
-six-units = refl
+six-units : Follows (ratioRule 2 300_000_000) (answered 6)
+six-units = (refl, refl)
 
-limit-passes : ratioAnswer 440_000_000_000 100_000_000_000 ≡ record { code = 0; ratio = 4_400_000_000 }
-limit-passes = refl
+limit-passes : Follows (ratioRule 440_000_000_000 100_000_000_000) (answered 4_400_000_000)
+limit-passes = (refl, refl)
 
 -- less than one unit above 4.4 is rounded down to it
-rounded-to-limit : ratioAnswer 440_000_000_099 100_000_000_000 ≡ record { code = 0; ratio = 4_400_000_000 }
-rounded-to-limit = refl
+rounded-to-limit : Follows (ratioRule 440_000_000_099 100_000_000_000) (answered 4_400_000_000)
+rounded-to-limit = (refl, refl)
 
-unit-more : ratioAnswer 440_000_000_100 100_000_000_000 ≡ record { code = 2; ratio = 0 }
+unit-more : Follows (ratioRule 440_000_000_100 100_000_000_000) (refused 0 2)
 unit-more = refl
 
-no-resistance : ratioAnswer 0 100_000_000 ≡ record { code = 1; ratio = 0 }
+no-resistance : Follows (ratioRule 0 100_000_000) (refused 0 1)
 no-resistance = refl
 
 -- 1 is tested before 2
-small-divisor : ratioAnswer 1_000_000_000_000 99_999_999 ≡ record { code = 1; ratio = 0 }
+small-divisor : Follows (ratioRule 1_000_000_000_000 99_999_999) (refused 0 1)
 small-divisor = refl
 
-large-divisor : ratioAnswer 1 1_000_000_000_001 ≡ record { code = 1; ratio = 0 }
+large-divisor : Follows (ratioRule 1 1_000_000_000_001) (refused 0 1)
 large-divisor = refl

@@ -1,4 +1,6 @@
+-- The definitions of `quantity`.
 pub mod Quantities
 pub mod Refusals
-pub mod RatioAnswer
-pub mod StepAnswer
+pub mod Outcomes
+pub mod Ratios
+pub mod Promised

@@ -1,4 +1,4 @@
--- The scope document's "Quantities".
+-- Resistances, ratios and temperatures: their units, their limits and how one is made from another.
 use mathlib.Core.Bool.{Bool, _&&_}
 use Prim.Native.Nat.{ℕ, _*_, _/_, _^_}
 use lib.Dec.{leb}

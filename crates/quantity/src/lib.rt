@@ -1,7 +1,6 @@
 // The quantities of the scope document as types of their own, so that no count is taken for another, and the numbers of the refusals.
 mod refusal;
 mod resistance;
-mod step;
 mod temperature;
 
 pub use refusal::Refusal;
@@ -10,6 +9,5 @@ pub use resistance::Nanoohm;
 pub use resistance::Ratio;
 pub use resistance::RatioAnswer;
 pub use resistance::ratio_of;
-pub use step::StepAnswer;
 pub use temperature::Celsius;
 pub use temperature::Kelvin;

@@ -1,3 +1,4 @@
+// Why there is no answer.
 ghost use mathlib.Core.Path.{_≡_};
 ghost use Rattle.quantity.specs.Refusals.{numberOf};
 

@@ -1,9 +1,11 @@
+// Resistances, ratios, and the ratio of two resistances.
 ghost use mathlib.Core.Path.{_≡_};
 ghost use mathlib.Core.Bool.{_&&_};
 ghost use Prim.Native.Nat.{_≤_};
 ghost use lib.Dec.{leb};
 ghost use Rattle.quantity.specs.Quantities.{largestResistance, leastDivisor, ratioOf};
-ghost use Rattle.quantity.specs.RatioAnswer.{ratioAnswer, stated};
+ghost use Rattle.quantity.specs.Outcomes.{Follows};
+ghost use Rattle.quantity.specs.Ratios.{ratioRule, stated};
 use crate::refusal::Refusal;
 
 // Whole nanoohms.
@@ -41,7 +43,7 @@ fn nine_decimals(r: u64, r0: u64) -> u64
 
 // The ratio of two resistances.
 pub fn ratio_of(r: Nanoohm, r0: Nanoohm) -> RatioAnswer
-    ensures { λ m. ⌜ stated m ≡ ratioAnswer (r .0) (r0 .0) ⌝ }
+    ensures { λ m. ⌜ Follows (ratioRule (r .0) (r0 .0)) (stated m) ⌝ }
 {
     let x = r.0;
     let y = r0.0;

@@ -1,6 +1,8 @@
+-- What is proved of the definitions of `reading`.
 pub mod Ends
-pub mod Outcomes
-pub mod Tests
-pub mod Ways
+pub mod Answered
 pub mod Demand
 pub mod Unique
+pub mod Tests
+pub mod LeastRatio
+pub mod Whole

@@ -1,58 +1,43 @@
--- From a step to its ratio.
-use mathlib.Core.Path.{_≡_}
-use mathlib.Core.Option.{Option, none, some}
+-- Forward, from a step to its ratio.
+use mathlib.Core.List.{[]}
 use Prim.Native.Nat.{ℕ, _<_, _≤_}
-use lib.IntN.{ℤ, pos}
-use lib.Signed.{ltZ, _≤ℤ_, _<ℤ_}
-use Rattle.whole.specs.Choice.{if_then_else_}
-use Rattle.whole.specs.Floor.{floor}
+use lib.IntN.{ℤ}
+use lib.Signed.{_≤ℤ_, _<ℤ_}
 use Rattle.quantity.specs.Quantities.{largestRatio}
-use Rattle.quantity.specs.Refusals.{numberOf}
-use Rattle.scale.specs.declared.law.Law.{Law}
-use Rattle.scale.specs.declared.law.Law.the-variants.{Curve, Scale}
-use Rattle.scale.specs.Subranges.{lawNamed}
+use Rattle.quantity.specs.Outcomes.{Rule, ifNamed}
+use Rattle.law.specs.declared.subrange.Form.{Form}
+use Rattle.law.specs.declared.laws.Law.{Law}
+use Rattle.law.specs.declared.laws.Law.the-variants.{Curve, Scale}
+use Rattle.law.specs.Subranges.{carried, lawNamed}
+use Rattle.law.specs.Answers.{LawAndRatio, noRatio, forwardBy}
 use Rattle.reference.specs.Reference.{working}
-use Rattle.curve.specs.Curve.{exact, perUnit}
-use Rattle.certificate.specs.declared.certificate.Certificate.{Certificate}
-use Rattle.certificate.specs.Certificate.{givenThen}
+use Rattle.curve.specs.Ways as curve
+use Rattle.deviation.specs.declared.places.Places.{Places}
 use Rattle.deviation.specs.Working.{Wr}
-use Rattle.reading.specs.declared.forward.ForwardAnswer.{ForwardAnswer}
-use Rattle.reading.specs.declared.forward.ForwardAnswer.the-variants.{At, Refused}
-use Rattle.reading.specs.Laws.{first, last}
+use Rattle.certificate.specs.declared.soundness.Given.{Given}
+use Rattle.certificate.specs.declared.soundness.Certificate.{Certificate}
+use Rattle.certificate.specs.Certificate.{soundTests, certificateOf}
+use Rattle.reading.specs.Laws.{rangeOf}
 
 -- w is the least ratio from 0 to 4.4 whose Wr is not under the working value at the step.
-pub record Least (k : Certificate) (step : ℤ) (w : ℕ) : Type 0 where
+pub record Least (form : Form) (k : Places) (step : ℤ) (w : ℕ) : Type 0 where
   pub within : w ≤ largestRatio
-  pub enough : working step ≤ℤ Wr k w
-  pub least : (v : ℕ) → v < w → Wr k v <ℤ working step
+  pub enough : working step ≤ℤ Wr form k w
+  pub least : (v : ℕ) → v < w → Wr form k v <ℤ working step
 
 -- The ratio of a step: on the curve the exact ratio rounded down to 10^-9, on the scale the least one.
-abbrev pub RatioAt : Law → Certificate → ℤ → ℕ → Type 0
-RatioAt Curve k step w = pos w ≡ floor (exact step) perUnit
-RatioAt (Scale s) k step w = Least k step w
+abbrev pub RatioAt : Law → Places → ℤ → ℕ → Type 0
+RatioAt Curve k step w = curve.RatioAt step w
+RatioAt (Scale s) k step w = Least (carried s .form) k step w
 
--- The outcome: the number given, 0 where there is an answer, the law, and the ratio; a refusal names no law and has ratio 0.
-pub record Outcome : Type 0 where
-  pub code : ℕ
-  pub law : Option Law
-  pub ratio : ℕ
+-- By a law and places that keep their limits. 8 or 9: a step outside the subrange or the curve; else its ratio, with the law named.
+abbrev pub forwardStep : Law → Places → ℤ → Rule LawAndRatio
+forwardStep law k step = forwardBy [] law (rangeOf law) (RatioAt law k step) step
 
-abbrev pub refused : ℕ → Outcome
-refused number = record { code = number; law = none; ratio = 0 }
+-- By a certificate: 7, then 8 or 9.
+abbrev pub forwardCertificate : Certificate → ℤ → Rule LawAndRatio
+forwardCertificate k step = forwardBy (soundTests k) (k .law) (rangeOf (k .law)) (RatioAt (k .law) (k .places) step) step
 
--- What each case stands for.
-abbrev pub stated : ForwardAnswer → Outcome
-stated (At forward) = record { code = 0; law = some (forward .law); ratio = forward .ratio .0 }
-stated (Refused why) = refused (numberOf why)
-
--- 8 or 9: a step outside the subrange or the curve; else its ratio by the certificate's law.
-abbrev pub ForwardBy : Certificate → ℤ → Outcome → Type 0
-ForwardBy k step o =
-    let law = k .law in
-    if ltZ step (first law) then o ≡ refused 8
-    else if ltZ (last law) step then o ≡ refused 9
-    else (o .code ≡ 0) × (o .law ≡ some law) × RatioAt law k step (o .ratio)
-
--- By a named law and the places of its certificate: 3, 7, then 8 or 9, else the ratio.
-abbrev pub ForwardNamed : ℕ → ℤ → ℤ → ℤ → ℤ → ℕ → ℤ → Outcome → Type 0
-ForwardNamed name a b c d wal step o = givenThen (λ (n : ℕ). o ≡ refused n) (λ (k : Certificate). ForwardBy k step o) (lawNamed name) a b c d wal
+-- By a certificate as it was given. 3: no law has its name; then 7, then 8 or 9.
+abbrev pub forwardGiven : Given → ℤ → Rule LawAndRatio
+forwardGiven k step = ifNamed noRatio (lawNamed (k .law .0)) (λ law. forwardCertificate (certificateOf law k) step)

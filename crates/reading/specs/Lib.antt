@@ -1,5 +1,5 @@
+-- The definitions of `reading`.
 pub mod Laws
 pub mod Reading
 pub mod Forward
-pub mod Tolerance
 pub mod Promised

@@ -1,28 +1,35 @@
--- What is promised of readings besides their answers. `ReadNamed` is what the call `read` ensures of its answer, and `ForwardNamed` what `ratio_at` ensures, so
--- these are statements about every answer of those calls.
+-- What is promised of readings besides their answers. `readGiven` is the rule that the call `read` follows, and `forwardGiven` that of `forward`, so these are
+-- statements about every answer of those calls.
 use mathlib.Core.Path.{_≡_}
-use mathlib.Core.Bool.{true, _&&_}
+use mathlib.Core.Bool.{true, false, _&&_}
 use mathlib.Core.Option.{some}
 use Prim.Native.Nat.{ℕ, _≤_}
+use lib.Dec.{eqb}
 use lib.IntN.{ℤ, pos, _+ℤ_}
 use lib.Signed.{_≤ℤ_}
-use Rattle.polynomial.specs.Fraction.{integer, _+ᶠ_, _≤ᶠ_}
+use Rattle.exact.specs.Fraction.{integer, _+ᶠ_, _≤ᶠ_}
 use Rattle.quantity.specs.Quantities.{isReading, isDivisor, ratioOf}
-use Rattle.scale.specs.declared.subrange.Subrange.{Subrange}
-use Rattle.scale.specs.declared.law.Law.the-variants.{Scale}
-use Rattle.scale.specs.Subranges.{lawNamed}
+use Rattle.quantity.specs.Outcomes.{Outcome, answered, Follows}
+use Rattle.law.specs.declared.subrange.Form.{Form}
+use Rattle.law.specs.declared.subrange.Subrange.{Subrange}
+use Rattle.law.specs.declared.laws.Law.the-variants.{Scale}
+use Rattle.law.specs.Subranges.{carried, lawNamed}
+use Rattle.law.specs.Answers.{LawAndStep, LawAndRatio}
 use Rattle.reference.specs.Reference as reference
-use Rattle.certificate.specs.declared.certificate.Certificate.{Certificate}
-use Rattle.certificate.specs.Certificate.{certificateOf, sound}
+use Rattle.deviation.specs.declared.places.Places.{Places}
+use Rattle.deviation.specs.Limits.{Limited}
 use Rattle.deviation.specs.Exact.{exactWr}
-use Rattle.reading.specs.Laws.{first, last}
-use Rattle.reading.specs.Reading.{Outcome, ReadNamed}
-use Rattle.reading.specs.Forward as forward
-use Rattle.reading.specs.Forward.{Least, ForwardNamed}
+use Rattle.certificate.specs.declared.record.Record.{Record}
+use Rattle.certificate.specs.declared.soundness.Given.{Given}
+use Rattle.certificate.specs.declared.soundness.Certificate.{Certificate}
+use Rattle.certificate.specs.Certificate.{givenOf, held}
+use Rattle.certificate.specs.Record.{recordRule}
+use Rattle.reading.specs.Reading.{readCertificate, readGiven}
+use Rattle.reading.specs.Forward.{Least, forwardCertificate, forwardGiven}
 
 -- An answered reading names the law that was asked for, and no other.
 abbrev pub LawAsked : Type 0
-LawAsked = (name : ℕ) (a b c d : ℤ) (wal r r0 : ℕ) (o : Outcome) → ReadNamed name a b c d wal r r0 o → o .code ≡ 0 → o .law ≡ lawNamed name
+LawAsked = (k : Given) (r r0 : ℕ) (o : Outcome LawAndStep) → Follows (readGiven k r r0) o → o .code ≡ 0 → o .answer .law ≡ lawNamed (k .law .0)
 
 -- ---- demand 3
 -- 0.000 000 000 3 in units of 10^-11
@@ -31,32 +38,54 @@ departure = 30
 
 -- The ratio w, nine decimals, is taken through the certificate's deviation function without rounding. The exact reference function at the step is never above
 -- the result by more than 0.0000000003, and at the next step never below it by more than that.
-pub record Close (k : Certificate) (w : ℕ) (step : ℤ) : Type 0 where
-  pub not-above : reference.exact step ≤ᶠ exactWr k w +ᶠ integer (pos departure)
-  pub not-below : exactWr k w ≤ᶠ reference.exact (step +ℤ pos 1) +ᶠ integer (pos departure)
+pub record Close (form : Form) (k : Places) (w : ℕ) (step : ℤ) : Type 0 where
+  pub not-above : reference.exact step ≤ᶠ exactWr form k w +ᶠ integer (pos departure)
+  pub not-below : exactWr form k w ≤ᶠ reference.exact (step +ℤ pos 1) +ᶠ integer (pos departure)
 
 -- First half: so it is with every answer by the scale.
 abbrev pub AnswersClose : Type 0
 AnswersClose =
-    (name : ℕ) (a b c d : ℤ) (wal r r0 : ℕ) (o : Outcome) (s : Subrange) → lawNamed name ≡ some (Scale s)
-    → ReadNamed name a b c d wal r r0 o → o .code ≡ 0 → Close (certificateOf (Scale s) a b c d wal) (ratioOf r r0) (o .step)
+    (k : Given) (r r0 : ℕ) (o : Outcome LawAndStep) (s : Subrange) → lawNamed (k .law .0) ≡ some (Scale s)
+    → Follows (readGiven k r r0) o → o .code ≡ 0 → Close (carried s .form) (k .places) (ratioOf r r0) (o .answer .step)
 
 -- Second half: on one certificate (an unsound one is refused) and one R0, of two answered readings the larger resistance never gives the lower temperature.
 abbrev pub AnswersOrdered : Type 0
 AnswersOrdered =
-    (name : ℕ) (a b c d : ℤ) (wal r r′ r0 : ℕ) (o o′ : Outcome) → ReadNamed name a b c d wal r r0 o → ReadNamed name a b c d wal r′ r0 o′
-    → o .code ≡ 0 → o′ .code ≡ 0 → r ≤ r′ → o .step ≤ℤ o′ .step
+    (k : Given) (r r′ r0 : ℕ) (o o′ : Outcome LawAndStep) → Follows (readGiven k r r0) o → Follows (readGiven k r′ r0) o′
+    → o .code ≡ 0 → o′ .code ≡ 0 → r ≤ r′ → o .answer .step ≤ℤ o′ .answer .step
+
+-- ---- certificates that travel whole
+-- What follows the rule of a certificate follows that of the same one given by its law's name, so all that is said here of given ones holds of it too.
+abbrev pub ReadAsGiven : Type 0
+ReadAsGiven = (k : Certificate) (r r0 : ℕ) (o : Outcome LawAndStep) → Follows (readCertificate k r r0) o → Follows (readGiven (givenOf k) r r0) o
+
+abbrev pub ForwardAsGiven : Type 0
+ForwardAsGiven = (k : Certificate) (step : ℤ) (o : Outcome LawAndRatio) → Follows (forwardCertificate k step) o → Follows (forwardGiven (givenOf k) step) o
+
+-- A certificate that a record yielded is never refused by 3 or 7.
+abbrev pub Yielded : Certificate → Type 0
+Yielded k = (ratios : Record) × Follows (recordRule ratios) (answered (held k))
+
+abbrev pub YieldedReads : Type 0
+YieldedReads =
+    (k : Certificate) → Yielded k → (r r0 : ℕ) (o : Outcome LawAndStep) → Follows (readGiven (givenOf k) r r0) o
+    → (eqb (o .code) 3 ≡ false) × (eqb (o .code) 7 ≡ false)
+
+abbrev pub YieldedForward : Type 0
+YieldedForward =
+    (k : Certificate) → Yielded k → (step : ℤ) (o : Outcome LawAndRatio) → Follows (forwardGiven (givenOf k) step) o
+    → (eqb (o .code) 3 ≡ false) × (eqb (o .code) 7 ≡ false)
 
 -- ---- forward on the scale
--- By a sound certificate every step of a subrange has its ratio.
+-- By places that keep their limits every step of a subrange has its ratio.
 abbrev pub HasRatio : Type 0
 HasRatio =
-    (k : Certificate) (s : Subrange) → sound k ≡ true → (step : ℤ) → first (Scale s) ≤ℤ step → step ≤ℤ last (Scale s)
-    → (w : ℕ) × Least k step w
+    (s : Subrange) (k : Places) → Limited (carried s .form) k → (step : ℤ) → carried s .bottom ≤ℤ step → step ≤ℤ carried s .top
+    → (w : ℕ) × Least (carried s .form) k step w
 
 -- Reading the ratio of a step gives the step back: two resistances of that ratio are answered by that step.
 abbrev pub ReadsBack : Type 0
 ReadsBack =
-    (name : ℕ) (a b c d : ℤ) (wal r r0 : ℕ) (step : ℤ) (s : Subrange) (f : forward.Outcome) (o : Outcome) → lawNamed name ≡ some (Scale s)
-    → ForwardNamed name a b c d wal step f → f .code ≡ 0 → (isReading r && isDivisor r0) ≡ true → ratioOf r r0 ≡ f .ratio
-    → ReadNamed name a b c d wal r r0 o → o ≡ record { code = 0; law = some (Scale s); step = step }
+    (k : Given) (r r0 : ℕ) (step : ℤ) (s : Subrange) (f : Outcome LawAndRatio) (o : Outcome LawAndStep) → lawNamed (k .law .0) ≡ some (Scale s)
+    → Follows (forwardGiven k step) f → f .code ≡ 0 → (isReading r && isDivisor r0) ≡ true → ratioOf r r0 ≡ f .answer .ratio
+    → Follows (readGiven k r r0) o → o ≡ answered (record { law = some (Scale s); step = step })

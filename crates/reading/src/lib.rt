@@ -1,14 +1,15 @@
-// Readings by the scale or by the curve, the way back from a step to its ratio, and tolerance tests. Each answer says by which law it was given.
-mod forward;
-mod reading;
-mod tolerance;
+// Readings by the scale or by the curve, forward from a step to its ratio, and tolerance tests. Each answer says by which law it was given.
+mod from_resistance;
+mod from_step;
 
-pub use forward::ForwardAnswer;
-pub use forward::ForwardRatio;
-pub use forward::ratio_at;
-pub use reading::Reading;
-pub use reading::ReadingAnswer;
-pub use reading::read;
-pub use tolerance::Judgement;
-pub use tolerance::JudgementAnswer;
-pub use tolerance::judge;
+pub use curve::ToleranceAnswer;
+pub use curve::ToleranceResult;
+pub use curve::tolerance_test;
+pub use from_resistance::read;
+pub use from_resistance::read_by;
+pub use from_step::forward;
+pub use from_step::forward_by;
+pub use law::ForwardAnswer;
+pub use law::ForwardRatio;
+pub use law::Reading;
+pub use law::ReadingAnswer;

@@ -5,6 +5,7 @@ use draws::Signed;
 use draws::around;
 use draws::drawn_aluminium;
 use draws::drawn_place;
+use draws::given_by;
 use draws::given_name;
 use draws::law_name;
 use draws::law_text;
@@ -16,11 +17,9 @@ use evidence::Report;
 use evidence::Written;
 use quantity::Celsius;
 use quantity::Nanoohm;
-use quantity::Ratio;
 use reading::ForwardAnswer;
-use reading::JudgementAnswer;
 use reading::ReadingAnswer;
-use scale::Name;
+use reading::ToleranceAnswer;
 
 // A law by its number, 0 for the curve and 1 to 6 for ga to ag, and the places of its certificate.
 struct Certificate {
@@ -235,28 +234,13 @@ fn reading_text(line: &mut [u8], from: usize, answer: ReadingAnswer) -> usize {
 }
 
 fn read_by(k: Certificate, r: u64, r0: u64) -> ReadingAnswer {
-    reading::read(
-        Name(law_name(k.law)),
-        k.a,
-        k.b,
-        k.c,
-        k.d,
-        Ratio(k.wal),
-        Nanoohm(r),
-        Nanoohm(r0),
-    )
+    let given = given_by(law_name(k.law), k.a, k.b, k.c, k.d, k.wal);
+    reading::read(given, Nanoohm(r), Nanoohm(r0))
 }
 
 fn forward_by(k: Certificate, step: i64) -> ForwardAnswer {
-    reading::ratio_at(
-        Name(law_name(k.law)),
-        k.a,
-        k.b,
-        k.c,
-        k.d,
-        Ratio(k.wal),
-        Celsius(step),
-    )
+    let given = given_by(law_name(k.law), k.a, k.b, k.c, k.d, k.wal);
+    reading::forward(given, Celsius(step))
 }
 
 // The ratio of a step, or 0 where it has none.
@@ -535,16 +519,8 @@ fn drawn_asked(g: Generator) -> Asked {
 }
 
 fn answer_to(q: Asked) -> ReadingAnswer {
-    reading::read(
-        Name(given_name(q.law, q.far)),
-        q.a,
-        q.b,
-        q.c,
-        q.d,
-        Ratio(q.wal),
-        Nanoohm(q.r),
-        Nanoohm(q.r0),
-    )
+    let given = given_by(given_name(q.law, q.far), q.a, q.b, q.c, q.d, q.wal);
+    reading::read(given, Nanoohm(q.r), Nanoohm(q.r0))
 }
 
 fn asked_text(line: &mut [u8], from: usize, q: Asked) -> usize {
@@ -567,23 +543,23 @@ fn order_case(g: Generator, line: &mut [u8]) -> Written {
 
 // ---- tolerance tests
 
-fn verdict_text(line: &mut [u8], from: usize, passes: bool) -> usize {
+fn passes_text(line: &mut [u8], from: usize, passes: bool) -> usize {
     if passes {
         return evidence::text(line, from, b" pass");
     }
     evidence::text(line, from, b" fail")
 }
 
-fn judgement_text(line: &mut [u8], from: usize, answer: JudgementAnswer) -> usize {
+fn result_text(line: &mut [u8], from: usize, answer: ToleranceAnswer) -> usize {
     match answer {
-        JudgementAnswer::Judged(j) => {
+        ToleranceAnswer::Tested(j) => {
             let law = j.law;
             let passes = j.passes;
             let mut at = law_text(line, from, law);
-            at = verdict_text(line, at, passes);
+            at = passes_text(line, at, passes);
             evidence::signed(line, at, j.error)
         }
-        JudgementAnswer::Refused(why) => evidence::refused(line, from, why.number() as u64),
+        ToleranceAnswer::Refused(why) => evidence::refused(line, from, why.number() as u64),
     }
 }
 
@@ -596,7 +572,7 @@ fn tolerance_case(g: Generator, line: &mut [u8]) -> Written {
     let g3 = r.generator;
     let bath = less(above.value, 2_200_000);
     let class = letter.value + 64;
-    let answer = reading::judge(
+    let answer = reading::tolerance_test(
         class as u8,
         Celsius(bath),
         Nanoohm(r.value),
@@ -606,7 +582,7 @@ fn tolerance_case(g: Generator, line: &mut [u8]) -> Written {
     at = evidence::natural(line, at, class);
     at = evidence::signed(line, at, bath);
     at = pair_text(line, at, r.value, 100_000_000_000);
-    at = judgement_text(line, at, answer);
+    at = result_text(line, at, answer);
     Written {
         generator: g3,
         len: evidence::text(line, at, b"\n"),

@@ -1,3 +1,4 @@
+-- What is proved of the definitions of `reference`.
 pub mod Steps
 pub mod Rising
 pub mod Close

@@ -5,8 +5,8 @@ use lib.IntN.{ℤ, pos, natAbs, _+ℤ_}
 use lib.Signed.{_≤ℤ_, _<ℤ_}
 use Rattle.whole.proofs.Parts.{ints, add-parts}
 use Rattle.whole.proofs.Rising as rising
-use Rattle.polynomial.proofs.Sizes.{size, by-sizes}
-use Rattle.polynomial.proofs.Rise.{spread, climbs}
+use Rattle.exact.proofs.Sizes.{size, by-sizes}
+use Rattle.exact.proofs.Rise.{spread, climbs}
 use Rattle.reference.specs.Reference.{n, working, middle, pastLast}
 use Rattle.reference.specs.Promised.{Increasing}
 use Rattle.reference.proofs.Steps.{span, next}

@@ -5,8 +5,8 @@ use lib.Signed.{_≤ℤ_, _<ℤ_}
 use Rattle.whole.proofs.Parts.{ints}
 use Rattle.whole.specs.Largest.{Largest}
 use Rattle.whole.proofs.Largest.{largest-unique, largest-not-below, largest-not-past}
-use Rattle.reference.specs.declared.Inverse.{Inverse}
-use Rattle.reference.specs.declared.Inverse.the-variants.{Below, At, Past}
+use Rattle.reference.specs.declared.inverse.Inverse.{Inverse}
+use Rattle.reference.specs.declared.inverse.Inverse.the-variants.{Below, At, Past}
 use Rattle.reference.specs.Reference.{working, last, pastLast}
 use Rattle.reference.specs.Inverse.{Inverted}
 use Rattle.reference.proofs.Rising.{one-up, rises}

@@ -1,7 +1,7 @@
 -- Working values that the checker computes: at the first step, and one step past the last.
 use mathlib.Core.Path.{_≡_, refl}
 use lib.IntN.{pos}
-use Rattle.polynomial.specs.Polynomial.{rounded}
+use Rattle.exact.specs.Polynomial.{rounded}
 use Rattle.reference.specs.Reference.{working, pastLast}
 
 pub at-zero : working (pos 0) ≡ pos 99_996_011_000

@@ -1,9 +1,9 @@
--- The inverse: "the largest step whose working value is not above the one given".
+-- The inverse: of the steps whose working value does not exceed a given one, the largest.
 use lib.IntN.{ℤ, pos}
 use lib.Signed.{_≤ℤ_, _<ℤ_}
 use Rattle.whole.specs.Largest.{Largest}
-use Rattle.reference.specs.declared.Inverse.{Inverse}
-use Rattle.reference.specs.declared.Inverse.the-variants.{Below, At, Past}
+use Rattle.reference.specs.declared.inverse.Inverse.{Inverse}
+use Rattle.reference.specs.declared.inverse.Inverse.the-variants.{Below, At, Past}
 use Rattle.reference.specs.Reference.{working, last, pastLast}
 
 -- What an answer says of the value: it is under the working value at 0 °C, or the step is the largest one, or it is at or over the working value one

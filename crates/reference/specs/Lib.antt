@@ -1,3 +1,4 @@
+-- The definitions of `reference`.
 pub mod Reference
 pub mod Promised
 pub mod Inverse

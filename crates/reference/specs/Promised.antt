@@ -2,7 +2,7 @@
 use mathlib.Core.Path.{_≡_}
 use lib.IntN.{ℤ, pos, _-ℤ_}
 use lib.Signed.{_≤ℤ_, _<ℤ_}
-use Rattle.polynomial.specs.Fraction.{Within}
+use Rattle.exact.specs.Fraction.{Within}
 use Rattle.quantity.specs.Quantities.{kelvinOf}
 use Rattle.reference.specs.Reference.{n, working, exact, pastLast}
 

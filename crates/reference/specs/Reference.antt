@@ -3,8 +3,8 @@ use mathlib.Core.List.{List, [], _∷_}
 use Prim.Native.Nat.{ℕ}
 use native.Mathlib.Omega.{arith}
 use lib.IntN.{ℤ, pos, negℤ, _+ℤ_, _-ℤ_}
-use Rattle.polynomial.specs.Fraction.{Fraction}
-use Rattle.polynomial.specs.Polynomial.{rounded, exactly}
+use Rattle.exact.specs.Fraction.{Fraction}
+use Rattle.exact.specs.Polynomial.{rounded, exactly}
 
 -- The printed coefficients, eight decimals and three zeros: C0 is 2.781 572 54.
 abbrev pub C₀ : ℤ

@@ -1,26 +1,7 @@
-pub mod Accepted
-pub mod Calls
-pub mod Came
-pub mod Changes
-pub mod Entries
-pub mod Importing
-pub mod Keeping
-pub mod Kit
-pub mod Lends
-pub mod Lent
-pub mod Live
-pub mod Newer
-pub mod Opened
-pub mod Orders
-pub mod Places
-pub mod Placing
-pub mod Plain
-pub mod Slices
-pub mod Sorts
-pub mod Tables
-pub mod Tests
-pub mod Unique
-pub mod Values
-pub mod Verdicts
-pub mod Withdrawing
-pub mod Wrapped
+-- The proofs of the register that belong to no one function, in three parts.
+-- Facts of tables and entries as lists: no program stands in them.
+pub mod lists
+-- What is promised in `specs/Promised.antt`, proved.
+pub mod theorems
+-- What the hand proofs of the functions over a lent table share: the steps of a program that such a proof follows.
+pub mod walks

@@ -7,10 +7,11 @@ use lib.Dec.{eqb, ltb}
 use Rattle.whole.specs.Any.{any}
 use Rattle.whole.specs.Choice.{if_then_else_}
 use Rattle.entry.specs.declared.entry.Entry.{Entry}
-use Rattle.verdict.specs.declared.testing.Noted.{Noted}
-use Rattle.verdict.specs.declared.answering.Change.{Change}
+use Rattle.examination.specs.declared.testing.Noted.{Noted}
+use Rattle.examination.specs.declared.answering.Change.{Change}
 use Rattle.entry.specs.Entry.{isUnknown, isUnsound, isFree, clash, joined}
-use Rattle.verdict.specs.Answering.{stated, importNumber}
+use Rattle.quantity.specs.Outcomes.{Test, numberGiven, Rule, Follows}
+use Rattle.examination.specs.Answering.{stated, importTests}
 use Rattle.register.specs.Table.{entryOf, put, count, twice, badTable, places}
 
 -- 3: the law of an imported certificate is unknown; 7: an imported certificate is not sound.
@@ -44,10 +45,12 @@ pub record Tested (table list : List Entry) (left : ℕ) (found : Noted) : Type 
   pub of-clashing : found .clashing ≡ any (clashing table) list
   pub of-short : found .short ≡ ltb left (count (isNew table) list)
 
--- The tests in their order, each over the whole list before the next. 0 where the import is accepted.
+-- The tests in their order, each over the whole list before the next, and their number, 0 where the import is accepted.
+abbrev pub testsOf : List Entry → List Entry → List Test
+testsOf table list = importTests (badTable table) (any unknown list) (any unsound list) (unfit list) (any (clashing table) list) (short table list)
+
 unfoldable pub importRefusal : List Entry → List Entry → ℕ
-importRefusal table list =
-    importNumber (badTable table) (any unknown list) (any unsound list) (unfit list) (any (clashing table) list) (short table list)
+importRefusal table list = numberGiven (testsOf table list)
 
 -- One entry comes in: a new thermometer takes the first free place, the entry of another is merged at its own.
 abbrev pub placed : List Entry → Entry → List Entry
@@ -64,6 +67,10 @@ placedAll table (e ∷ es) = placedAll (placed table e) es
 unfoldable pub imported : List Entry → List Entry → List Entry
 imported table list = if eqb (importRefusal table list) 0 then placedAll table list else table
 
+-- The rule of an import, whose answer is the table that it leaves: as it was where the import is refused.
+abbrev pub importRule : List Entry → List Entry → Rule (List Entry)
+importRule table list = record { tests = testsOf table list; zeros = table; Answer = λ left. left ≡ placedAll table list }
+
 -- What is promised of an import: its answer, and the table that it leaves.
 abbrev pub ImportedAs : List Entry → List Entry → Change → List Entry → Type 0
-ImportedAs table list answer left = (stated answer ≡ importRefusal table list) × (left ≡ imported table list)
+ImportedAs table list answer left = Follows (importRule table list) (record { code = stated answer; answer = left })

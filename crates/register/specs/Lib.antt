@@ -1,3 +1,4 @@
+-- The definitions of `register`.
 pub mod Table
 pub mod Import
 pub mod Withdrawal

@@ -1,5 +1,6 @@
 -- What is promised of the register besides its answers. The call `import` ensures `ImportedAs`, `withdraw` ensures `WithdrawnAs` and `read` ensures
--- `ReadThrough`, so what is said here of `importRefusal`, `imported`, `withdrawalRefusal`, `withdrawn` and `ReadThrough` is said of every use of those calls.
+-- `ReadThrough`. By `ImportLeaves` and `WithdrawalLeaves`, what is said here of `importRefusal`, `imported`, `withdrawalRefusal` and `withdrawn` is said of every
+-- use of the first two.
 use mathlib.Core.Path.{_≡_}
 use mathlib.Core.Bool.{true, false}
 use mathlib.Core.List.{List, [], _∷_}
@@ -9,18 +10,19 @@ use lib.Dec.{eqb}
 use lib.ListN.{length, getD}
 use lib.Signed.{_≤ℤ_}
 use Rattle.quantity.specs.Quantities.{ratioOf}
-use Rattle.scale.specs.declared.law.Law.the-variants.{Scale}
-use Rattle.scale.specs.declared.subrange.Subrange.{Subrange}
-use Rattle.scale.specs.Subranges.{lawNamed}
-use Rattle.certificate.specs.Certificate.{certificateOf}
-use Rattle.reading.specs.declared.reading.ReadingAnswer.{ReadingAnswer}
-use Rattle.reading.specs.Reading.{Outcome, stated as readAs}
+use Rattle.quantity.specs.Outcomes.{Outcome, Follows}
+use Rattle.law.specs.declared.laws.Law.the-variants.{Scale}
+use Rattle.law.specs.declared.subrange.Subrange.{Subrange}
+use Rattle.law.specs.Subranges.{carried, lawNamed}
+use Rattle.law.specs.declared.answer.ReadingAnswer.{ReadingAnswer}
+use Rattle.law.specs.Answers.{LawAndStep, stated as readAs}
+use Rattle.reading.specs.Reading.{readGiven}
 use Rattle.reading.specs.Promised.{Close}
 use Rattle.entry.specs.declared.entry.Entry.{Entry}
 use Rattle.entry.specs.declared.entry.Serial.{Serial}
-use Rattle.verdict.specs.declared.answering.Change.{Change}
+use Rattle.examination.specs.declared.answering.Change.{Change}
 use Rattle.entry.specs.Entry.{fault, isFree, isLive, free, joined, raised}
-use Rattle.verdict.specs.Answering.{ReadGiven}
+use Rattle.examination.specs.Answering.{stated as changed}
 use Rattle.register.specs.Table.{entryOf, badTable}
 use Rattle.register.specs.Import.{short, importRefusal, imported, ImportedAs}
 use Rattle.register.specs.Withdrawal.{withdrawalRefusal, withdrawn, WithdrawnAs}
@@ -29,6 +31,19 @@ use Rattle.register.specs.Reading.{ReadThrough}
 -- A number names a thermometer where it is not 0.
 abbrev pub Names : ℕ → Type 0
 Names n = eqb n 0 ≡ false
+
+-- ---- what the calls answer and leave
+-- The number that an import gives is that of its tests, and the table that it leaves is `imported`.
+abbrev pub ImportLeaves : Type 0
+ImportLeaves =
+    (table list : List Entry) (answer : Change) (left : List Entry) → ImportedAs table list answer left
+    → (changed answer ≡ importRefusal table list) × (left ≡ imported table list)
+
+-- Those of a withdrawal are that of its tests and `withdrawn`.
+abbrev pub WithdrawalLeaves : Type 0
+WithdrawalLeaves =
+    (table : List Entry) (n : ℕ) (serial : Serial) (answer : Change) (left : List Entry) → WithdrawnAs table n serial answer left
+    → (changed answer ≡ withdrawalRefusal table n) × (left ≡ withdrawn table n serial)
 
 -- ---- refusals
 -- An import or a withdrawal that is refused leaves the table as it was.
@@ -88,8 +103,8 @@ WithdrawalRaises =
 -- An answered reading is what a live certificate reads by its own law.
 abbrev pub ReadsLive : Type 0
 ReadsLive =
-    (table : List Entry) (n r r0 : ℕ) (o : Outcome) → ReadThrough table n r r0 o → o .code ≡ 0
-    → let held = entryOf table n in (isLive held ≡ true) × ReadGiven (held .certificate) r r0 o
+    (table : List Entry) (n r r0 : ℕ) (o : Outcome LawAndStep) → ReadThrough table n r r0 o → o .code ≡ 0
+    → let held = entryOf table n in (isLive held ≡ true) × Follows (readGiven (held .certificate) r r0) o
 
 -- Every certificate held in a table that is not bad is good.
 abbrev pub HeldGood : Type 0
@@ -97,24 +112,24 @@ HeldGood = (table : List Entry) (n : ℕ) → badTable table ≡ false → isFre
 
 -- So no reading through the register is refused by 3 or 7.
 abbrev pub ThroughGood : Type 0
-ThroughGood = (table : List Entry) (n r r0 : ℕ) (o : Outcome) → ReadThrough table n r r0 o → (eqb (o .code) 3 ≡ false) × (eqb (o .code) 7 ≡ false)
+ThroughGood = (table : List Entry) (n r r0 : ℕ) (o : Outcome LawAndStep) → ReadThrough table n r r0 o → (eqb (o .code) 3 ≡ false) × (eqb (o .code) 7 ≡ false)
 
 -- Demands 2 and 3: an answered reading names the certificate's law; by the scale it is as close as demand 3 says; and of two answered readings of one thermometer
 -- over one R0 the larger resistance never gives the lower temperature.
 abbrev pub ThroughLaw : Type 0
 ThroughLaw =
-    (table : List Entry) (n r r0 : ℕ) (o : Outcome) → ReadThrough table n r r0 o → o .code ≡ 0 → o .law ≡ lawNamed (entryOf table n .certificate .law .0)
+    (table : List Entry) (n r r0 : ℕ) (o : Outcome LawAndStep) → ReadThrough table n r r0 o → o .code ≡ 0 → o .answer .law ≡ lawNamed (entryOf table n .certificate .law .0)
 
 abbrev pub ThroughClose : Type 0
 ThroughClose =
-    (table : List Entry) (n r r0 : ℕ) (o : Outcome) (s : Subrange) → lawNamed (entryOf table n .certificate .law .0) ≡ some (Scale s)
+    (table : List Entry) (n r r0 : ℕ) (o : Outcome LawAndStep) (s : Subrange) → lawNamed (entryOf table n .certificate .law .0) ≡ some (Scale s)
     → ReadThrough table n r r0 o → o .code ≡ 0
-    → let k = entryOf table n .certificate in Close (certificateOf (Scale s) (k .a) (k .b) (k .c) (k .d) (k .wal .0)) (ratioOf r r0) (o .step)
+    → Close (carried s .form) (entryOf table n .certificate .places) (ratioOf r r0) (o .answer .step)
 
 abbrev pub ThroughOrdered : Type 0
 ThroughOrdered =
-    (table : List Entry) (n r r′ r0 : ℕ) (o o′ : Outcome) → ReadThrough table n r r0 o → ReadThrough table n r′ r0 o′ → o .code ≡ 0 → o′ .code ≡ 0
-    → r ≤ r′ → o .step ≤ℤ o′ .step
+    (table : List Entry) (n r r′ r0 : ℕ) (o o′ : Outcome LawAndStep) → ReadThrough table n r r0 o → ReadThrough table n r′ r0 o′ → o .code ≡ 0 → o′ .code ≡ 0
+    → r ≤ r′ → o .answer .step ≤ℤ o′ .answer .step
 
 -- ---- what is withdrawn stays withdrawn
 -- What changes a register: imports, withdrawals.
@@ -145,7 +160,7 @@ MarkNeverFalls = (table : List Entry) (acts : List Act) (n : ℕ) → Names n �
 -- So what a mark withdraws today, however the mark came, is never read by again.
 abbrev pub MarkHolds : Type 0
 MarkHolds =
-    (table : List Entry) (n : ℕ) → Names n → (since : List Act) (r r0 : ℕ) (o : Outcome)
+    (table : List Entry) (n : ℕ) → Names n → (since : List Act) (r r0 : ℕ) (o : Outcome LawAndStep)
     → ReadThrough (afterAll table since) n r r0 o → o .code ≡ 0
     → markOf table n < serialOf (afterAll table since) n
 
@@ -155,9 +170,9 @@ MarkHolds =
 abbrev pub StaysWithdrawn : Type 0
 StaysWithdrawn =
     (table : List Entry) (n : ℕ) (serial : Serial) → withdrawalRefusal table n ≡ 0
-    → (since : List Act) (r r0 : ℕ) (o : Outcome)
+    → (since : List Act) (r r0 : ℕ) (o : Outcome LawAndStep)
     → ReadThrough (afterAll (withdrawn table n serial) since) n r r0 o → o .code ≡ 0
-    → let held = entryOf (afterAll (withdrawn table n serial) since) n in (serial .0 < held .serial .0) × ReadGiven (held .certificate) r r0 o
+    → let held = entryOf (afterAll (withdrawn table n serial) since) n in (serial .0 < held .serial .0) × Follows (readGiven (held .certificate) r r0) o
 
 -- An entry stands in a list with the number, the serial and the certificate of another.
 pub record StoodIn (entries : List Entry) (e : Entry) : Type 0 where
@@ -185,7 +200,7 @@ NewerServes =
     (table : List Entry) (e : Entry) → badTable table ≡ false → Names (e .number .0) → fault (e .certificate) ≡ 0 → short table (e ∷ []) ≡ false
     → serialOf table (e .number .0) < e .serial .0 → markOf table (e .number .0) < e .serial .0 → e .mark .0 < e .serial .0
     → (importRefusal table (e ∷ []) ≡ 0)
-    × ((r r0 : ℕ) (o : Outcome) → ReadThrough (imported table (e ∷ [])) (e .number .0) r r0 o → ReadGiven (e .certificate) r r0 o)
+    × ((r r0 : ℕ) (o : Outcome LawAndStep) → ReadThrough (imported table (e ∷ [])) (e .number .0) r r0 o → Follows (readGiven (e .certificate) r r0) o)
 
 -- And the old one does not come back: a serial never falls, whatever is imported and withdrawn.
 abbrev pub SerialNeverFalls : Type 0

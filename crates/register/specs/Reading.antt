@@ -1,11 +1,12 @@
 -- A reading through the register.
 use mathlib.Core.List.{List}
 use Prim.Native.Nat.{ℕ}
-use Rattle.reading.specs.Reading.{Outcome}
+use Rattle.quantity.specs.Outcomes.{Outcome, Follows}
+use Rattle.law.specs.Answers.{LawAndStep}
 use Rattle.entry.specs.declared.entry.Entry.{Entry}
-use Rattle.verdict.specs.Answering.{ReadEntry}
+use Rattle.examination.specs.Answering.{readEntry}
 use Rattle.register.specs.Table.{entryOf, badTable}
 
 -- 23, then 20: there is no live certificate; then what the live certificate reads.
-abbrev pub ReadThrough : List Entry → ℕ → ℕ → ℕ → Outcome → Type 0
-ReadThrough table n r r0 o = ReadEntry (badTable table) (entryOf table n) r r0 o
+abbrev pub ReadThrough : List Entry → ℕ → ℕ → ℕ → Outcome LawAndStep → Type 0
+ReadThrough table n r r0 o = Follows (readEntry (badTable table) (entryOf table n) r r0) o

@@ -2,7 +2,7 @@
 ghost use mathlib.Core.Path.{_≡_};
 ghost use Prim.Native.Nat.{min};
 ghost use lib.ListN.{take};
-ghost use Rattle.reading.specs.Reading.{stated};
+ghost use Rattle.law.specs.Answers.{stated};
 ghost use Rattle.register.specs.Import.{ImportedAs};
 ghost use Rattle.register.specs.Withdrawal.{WithdrawnAs};
 ghost use Rattle.register.specs.Reading.{ReadThrough};
@@ -12,9 +12,9 @@ use crate::withdrawals::withdraw;
 use entry::Entry;
 use entry::Serial;
 use entry::Thermometer;
+use examination::Change;
+use law::ReadingAnswer;
 use quantity::Nanoohm;
-use reading::ReadingAnswer;
-use verdict::Change;
 
 // The table after an import or a withdrawal, and its answer.
 pub struct After {

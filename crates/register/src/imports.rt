@@ -7,12 +7,12 @@ use crate::table::lookup;
 use crate::table::put;
 use entry::Entry;
 use entry::joined;
-use verdict::Change;
-use verdict::Noted;
-use verdict::accepted;
-use verdict::import_answer;
-use verdict::note;
-use verdict::nothing_noted;
+use examination::Change;
+use examination::Noted;
+use examination::accepted;
+use examination::import_answer;
+use examination::note;
+use examination::nothing_noted;
 
 // The tests of a list against a table with so many places left.
 pub fn check(table: &[Entry], list: &[Entry], places: u64) -> Noted

@@ -1,13 +1,13 @@
 // A reading through the register.
-ghost use Rattle.reading.specs.Reading.{stated};
+ghost use Rattle.law.specs.Answers.{stated};
 ghost use Rattle.register.specs.Reading.{ReadThrough};
 use crate::table::examine;
 use crate::table::lookup;
 use entry::Entry;
 use entry::Thermometer;
+use examination::reading_answer;
+use law::ReadingAnswer;
 use quantity::Nanoohm;
-use reading::ReadingAnswer;
-use verdict::reading_answer;
 
 // By the thermometer's live certificate, its law and no other.
 pub fn read(table: &[Entry], number: Thermometer, r: Nanoohm, r0: Nanoohm) -> ReadingAnswer

@@ -3,9 +3,9 @@ ghost use mathlib.Core.Path.{_≡_};
 ghost use Rattle.register.specs.Table.{firstAt, entryOf, put as putFirst, badTable, places};
 use entry::Entry;
 use entry::free;
-use verdict::Seen;
-use verdict::nothing_seen;
-use verdict::see;
+use examination::Seen;
+use examination::nothing_seen;
+use examination::see;
 
 // The place of a number in a table or a list: the first that has it, or the length.
 pub fn find(entries: &[Entry], number: u64) -> usize

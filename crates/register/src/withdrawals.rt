@@ -7,9 +7,9 @@ use entry::Entry;
 use entry::Serial;
 use entry::Thermometer;
 use entry::raised;
-use verdict::Change;
-use verdict::accepted;
-use verdict::withdrawal_answer;
+use examination::Change;
+use examination::accepted;
+use examination::withdrawal_answer;
 
 // The thermometer's mark rises to the serial and never falls. A refused withdrawal changes nothing.
 pub fn withdraw(table: &mut [Entry], number: Thermometer, serial: Serial) -> Change

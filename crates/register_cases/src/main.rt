@@ -1,25 +1,25 @@
 // Cases of the register: sequences of imports, withdrawals and readings over a table of four places, each with the table after it. The second program
 // makes what is expected (second/register_cases.py, where the family of cases is described).
 ghost use Prim.Native.Nat.{_≤_};
+use certificate::Given;
+use draws::given_by;
 use draws::law_text;
 use draws::places_text;
 use entry::Entry;
-use entry::Given;
 use entry::Serial;
 use entry::Thermometer;
 use evidence::Generator;
 use evidence::Report;
+use examination::Change;
+use law::Ag;
+use law::CURVE;
+use law::Ga;
+use law::Law;
+use law::Name;
+use law::NamedLaw;
+use law::Zn;
 use quantity::Nanoohm;
-use quantity::Ratio;
 use reading::ReadingAnswer;
-use scale::Ag;
-use scale::CURVE;
-use scale::Ga;
-use scale::Law;
-use scale::Name;
-use scale::NamedLaw;
-use scale::Zn;
-use verdict::Change;
 
 // ---- entries
 
@@ -35,29 +35,18 @@ struct Lots {
     entries: [Entry; 4],
 }
 
-fn given(law: u64, a: i64, b: i64, c: i64, d: i64, wal: u64) -> Given {
-    Given {
-        law: Name(law),
-        a,
-        b,
-        c,
-        d,
-        wal: Ratio(wal),
-    }
-}
-
 // Six good certificates, one by no law and two that are not sound.
 fn certificate(which: u64) -> Given {
     match which {
-        0 => given(CURVE, 0, 0, 0, 0, 0),
-        1 => given(Ga::NAME, 0, 0, 0, 0, 0),
-        2 => given(Ga::NAME, -58_346_744, 0, 0, 0, 0),
-        3 => given(Zn::NAME, 100, -200, 0, 0, 0),
-        4 => given(Ag::NAME, 0, 0, 0, 0, 3_376_008_600),
-        5 => given(Ag::NAME, 1, 2, 3, 4, 3_376_008_600),
-        6 => given(0, 0, 0, 0, 0, 0),
-        7 => given(Ga::NAME, 100_000_001, 0, 0, 0, 0),
-        _ => given(CURVE, 0, 0, 0, 0, 1),
+        0 => given_by(CURVE, 0, 0, 0, 0, 0),
+        1 => given_by(Ga::NAME, 0, 0, 0, 0, 0),
+        2 => given_by(Ga::NAME, -58_346_744, 0, 0, 0, 0),
+        3 => given_by(Zn::NAME, 100, -200, 0, 0, 0),
+        4 => given_by(Ag::NAME, 0, 0, 0, 0, 3_376_008_600),
+        5 => given_by(Ag::NAME, 1, 2, 3, 4, 3_376_008_600),
+        6 => given_by(0, 0, 0, 0, 0, 0),
+        7 => given_by(Ga::NAME, 100_000_001, 0, 0, 0, 0),
+        _ => given_by(CURVE, 0, 0, 0, 0, 1),
     }
 }
 
@@ -225,9 +214,10 @@ fn name_text(line: &mut [u8], from: usize, name: Name) -> usize {
 }
 
 fn certificate_text(line: &mut [u8], from: usize, k: Given) -> usize {
-    let wal = k.wal;
+    let p = k.places;
+    let wal = p.wal;
     let at = name_text(line, from, k.law);
-    places_text(line, at, k.a, k.b, k.c, k.d, wal.0)
+    places_text(line, at, p.a, p.b, p.c, p.d, wal.0)
 }
 
 fn entry_text(line: &mut [u8], from: usize, e: Entry) -> usize {

@@ -1,8 +1,9 @@
 // The register's story: a certificate that was withdrawn stays withdrawn when an import brings it back, and a newer one takes its place. The second
 // program makes what is expected (second/register_story.py).
+use certificate::Given;
+use draws::given_by;
 use draws::say_law;
 use entry::Entry;
-use entry::Given;
 use entry::Serial;
 use entry::Thermometer;
 use evidence::ONE;
@@ -10,15 +11,13 @@ use evidence::say;
 use evidence::say_natural;
 use evidence::say_refused;
 use evidence::say_signed;
+use examination::Change;
+use law::Al;
+use law::Law;
+use law::Subrange;
+use law::Zn;
 use quantity::Nanoohm;
-use quantity::Ratio;
 use reading::ReadingAnswer;
-use scale::Al;
-use scale::Law;
-use scale::Name;
-use scale::Subrange;
-use scale::Zn;
-use verdict::Change;
 
 // ---- what is said
 
@@ -48,14 +47,7 @@ fn reading_said(answer: ReadingAnswer) {
 // ---- acts on a table
 
 fn certificate(law: u64, a: i64, b: i64, c: i64) -> Given {
-    Given {
-        law: Name(law),
-        a,
-        b,
-        c,
-        d: 0,
-        wal: Ratio(0),
-    }
+    given_by(law, a, b, c, 0, 0)
 }
 
 // The story's two certificates.

@@ -11,7 +11,7 @@ use lib.ListN.{length, take, getD}
 use lib.Seq.{take-suc}
 use borrow.Author.Tests.{leb-true}
 use Rattle.whole.proofs.Choice.{and-true}
-use Rattle.scale.specs.Names.{after, nameOf}
+use Rattle.law.specs.Names.{after, nameOf}
 use Rattle.row.specs.Fields.{digit, small}
 use Rattle.row.specs.Numbers.{digitsAfter, valueOf}
 

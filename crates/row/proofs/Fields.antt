@@ -7,7 +7,7 @@ use Prim.Native.Nat.{ℕ, zero, suc, _≤_, _<_}
 use Prim.Native.Char.{code}
 use lib.Dec.{eqb}
 use lib.ListN.{length, take, getD}
-use Rattle.scale.specs.Names.{nameOf}
+use Rattle.law.specs.Names.{nameOf}
 use Rattle.row.specs.Fields.{digit, small}
 use Rattle.row.specs.Numbers.{mostDigits, leadingZero, isNumber, valueOf}
 use Rattle.row.specs.Rows.{longestLaw, isLaw}

@@ -1,3 +1,4 @@
+-- What is proved of the definitions of `row`.
 pub mod Spans
 pub mod Digits
 pub mod Fields

@@ -10,7 +10,7 @@ use lib.IntN.{ℤ}
 use lib.ListN.{length, drop, getD, length-drop}
 use lib.Seq.{drop-drop}
 use borrow.Author.Tests.{le-leb, lt-leb, leb-true, leb-false, eq-eqb, ne-eqb}
-use Rattle.scale.specs.Names.{nameOf}
+use Rattle.law.specs.Names.{nameOf}
 use Rattle.row.specs.declared.field.Scanned.{Scanned}
 use Rattle.row.specs.declared.number.Signed.{Signed}
 use Rattle.row.specs.declared.row.Row.{Row}
@@ -110,14 +110,9 @@ module _ (line : List ℕ) where
 abbrev pub rowWith : ℕ → ℕ → ℕ → ℕ → ℤ → ℤ → ℤ → ℤ → ℕ → Row
 rowWith prefix law r r0 a b c d wal = record {
   prefix = prefix;
-  law = record { 0 = law };
+  certificate = record { law = record { 0 = law }; places = record { a = a; b = b; c = c; d = d; wal = record { 0 = wal } } };
   r = record { 0 = r };
   r0 = record { 0 = r0 };
-  a = a;
-  b = b;
-  c = c;
-  d = d;
-  wal = record { 0 = wal };
 }
 
 -- the row of any fields

@@ -1,3 +1,4 @@
+-- The definitions of `row`.
 pub mod Fields
 pub mod Joined
 pub mod Numbers

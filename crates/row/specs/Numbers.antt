@@ -1,4 +1,4 @@
--- Numbers in fields: "decimal, at most 13 digits, a minus only for a to d and never before 0, no leading zero".
+-- Numbers in fields: 1 to 13 decimal digits without a leading zero, in a to d with a minus where below 0.
 use mathlib.Core.List.{List, [], _∷_}
 use mathlib.Core.Bool.{Bool, false, _&&_, not}
 use Prim.Native.Nat.{ℕ, _+_, _-_, _*_}

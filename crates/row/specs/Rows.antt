@@ -9,7 +9,7 @@ use lib.ListN.{length, getD}
 use Rattle.whole.specs.Choice.{if_then_else_}
 use Rattle.quantity.specs.Refusals.{numberOf}
 use Rattle.quantity.specs.declared.refusal.Refusal.the-variants.{IllFormed}
-use Rattle.scale.specs.Names.{nameOf}
+use Rattle.law.specs.Names.{nameOf}
 use Rattle.row.specs.declared.row.Row.{Row}
 use Rattle.row.specs.declared.row.Parsed.{Parsed}
 use Rattle.row.specs.declared.row.Parsed.the-variants as parsed
@@ -22,14 +22,14 @@ idByte b = capital b || small b || digit b || eqb b (code "-")
 abbrev pub longestId : ℕ
 longestId = 16
 
--- "An id is 1 to 16 ASCII letters, digits or hyphens"
+-- an id: letters, digits or hyphens of ASCII, 1 to 16 of them
 abbrev pub isId : List ℕ → Bool
 isId s = sized 1 longestId s && every idByte s
 
 abbrev pub longestLaw : ℕ
 longestLaw = 8
 
--- "a law 1 to 8 lower-case letters"
+-- the name of a law: 1 to 8 small letters
 abbrev pub isLaw : List ℕ → Bool
 isLaw s = sized 1 longestLaw s && every small s
 
@@ -44,7 +44,7 @@ keep [] (f ∷ fs) = false
 keep (rule ∷ others) [] = false
 keep (rule ∷ others) (f ∷ fs) = rule f && keep others fs
 
--- "A line is at most 200 bytes before CRLF"
+-- the longest line, without its CRLF
 abbrev pub longestLine : ℕ
 longestLine = 200
 
@@ -65,14 +65,18 @@ lawOf line = fieldAt 1 line
 abbrev pub rowOf : List ℕ → Row
 rowOf line = record {
   prefix = length (idOf line) + 1 + length (lawOf line) + 1;
-  law = record { 0 = nameOf (lawOf line) };
+  certificate = record {
+    law = record { 0 = nameOf (lawOf line) };
+    places = record {
+      a = signedOf (fieldAt 4 line);
+      b = signedOf (fieldAt 5 line);
+      c = signedOf (fieldAt 6 line);
+      d = signedOf (fieldAt 7 line);
+      wal = record { 0 = valueOf (fieldAt 8 line) };
+    };
+  };
   r = record { 0 = valueOf (fieldAt 2 line) };
   r0 = record { 0 = valueOf (fieldAt 3 line) };
-  a = signedOf (fieldAt 4 line);
-  b = signedOf (fieldAt 5 line);
-  c = signedOf (fieldAt 6 line);
-  d = signedOf (fieldAt 7 line);
-  wal = record { 0 = valueOf (fieldAt 8 line) };
 }
 
 -- The outcome: the number given, 0 where the line is well-formed, and its row; 10 has none.

@@ -1,3 +1,4 @@
+// What the scans of fields share: where a field ends, and what one that breaks its rule says.
 ghost use mathlib.Core.Path.{_≡_};
 ghost use mathlib.Core.Bool.{false, _&&_};
 ghost use Prim.Native.Nat.{_≤_};

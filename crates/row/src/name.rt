@@ -2,7 +2,7 @@
 ghost use mathlib.Core.Path.{_≡_};
 ghost use Prim.Native.Nat.{_≤_};
 ghost use lib.ListN.{length};
-ghost use Rattle.scale.specs.Names.{nameOf};
+ghost use Rattle.law.specs.Names.{nameOf};
 ghost use Rattle.row.specs.Rows.{longestLine, idByte, isId, isLaw};
 ghost use Rattle.row.specs.Scanned.{closesAt, nextIf, nextOf, scannedIf, scannedIn, scannedAt};
 use crate::field;

@@ -1,22 +1,20 @@
+// A line's fields in a row.
 ghost use mathlib.Core.Path.{_≡_};
 ghost use Rattle.row.specs.Rows.{stated, parsedOf};
 use crate::name;
 use crate::number;
+use certificate::Given;
+use deviation::Places;
+use law::Name;
 use quantity::Nanoohm;
 use quantity::Ratio;
-use scale::Name;
 
 // What a well-formed line says. `prefix` is how many bytes its id and its law take, with the comma after each: they stand at its start.
 pub struct Row {
     pub prefix: usize,
-    pub law: Name,
+    pub certificate: Given,
     pub r: Nanoohm,
     pub r0: Nanoohm,
-    pub a: i64,
-    pub b: i64,
-    pub c: i64,
-    pub d: i64,
-    pub wal: Ratio,
 }
 
 pub enum Parsed {
@@ -46,13 +44,17 @@ pub fn parse(line: &[u8]) -> Parsed
     }
     Parsed::Row(Row {
         prefix: law.next,
-        law: Name(law.value),
+        certificate: Given {
+            law: Name(law.value),
+            places: Places {
+                a: a.value,
+                b: b.value,
+                c: c.value,
+                d: d.value,
+                wal: Ratio(wal.value),
+            },
+        },
         r: Nanoohm(r.value),
         r0: Nanoohm(r0.value),
-        a: a.value,
-        b: b.value,
-        c: c.value,
-        d: d.value,
-        wal: Ratio(wal.value),
     })
 }

@@ -3,18 +3,18 @@ ghost use Prim.Native.Nat.{_+_, _<_, _^_};
 ghost use lib.IntN.{natAbs};
 use crate::DEGREE;
 use crate::tally::Tally;
-use curve::Verdict;
+use curve::ToleranceAnswer;
 use evidence::ONE;
 use evidence::say;
 use evidence::say_difference;
 use evidence::say_natural;
 use evidence::say_refused;
 use evidence::say_signed;
+use law::ForwardAnswer;
+use law::ReadingAnswer;
 use quantity::Celsius;
 use quantity::LARGEST_RATIO;
 use quantity::Nanoohm;
-use quantity::RatioAnswer;
-use quantity::StepAnswer;
 
 // R0 = 100 ohm, in nanoohms.
 const R0: u64 = 100_000_000_000;
@@ -159,8 +159,11 @@ fn step_of(i: u64) -> i64
 fn reading(r: Nanoohm) {
     say(b" reads");
     match curve::read_by(r, Nanoohm(R0)) {
-        StepAnswer::At(step) => say_signed(step.0, DEGREE),
-        StepAnswer::Refused(why) => say_refused(why.number() as u64),
+        ReadingAnswer::Read(reading) => {
+            let step = reading.step;
+            say_signed(step.0, DEGREE)
+        }
+        ReadingAnswer::Refused(why) => say_refused(why.number() as u64),
     }
 }
 
@@ -185,9 +188,12 @@ fn resistance(i: u64, tally: Tally) -> Tally
     say(b"iec");
     say_signed(whole::floor_by(step, DEGREE), ONE);
     say_natural(ohms, 100);
-    match curve::ratio_at(Celsius(step)) {
-        RatioAnswer::Ratio(w) => ratio_beside(ohms, r, w.0, tally),
-        RatioAnswer::Refused(why) => {
+    match curve::forward(Celsius(step)) {
+        ForwardAnswer::At(forward) => {
+            let w = forward.ratio;
+            ratio_beside(ohms, r, w.0, tally)
+        }
+        ForwardAnswer::Refused(why) => {
             say_refused(why.number() as u64);
             tally
         }
@@ -279,18 +285,21 @@ fn ratio_passes(class: u8, bath: i64, w: u64) -> bool {
     if LARGEST_RATIO < w {
         return false;
     }
-    match curve::judge(class, Celsius(bath), Nanoohm((w + 1) * 100), Nanoohm(R0)) {
-        Verdict::Tested { passes, error: _ } => passes,
-        Verdict::Refused(_) => false,
+    match curve::tolerance_test(class, Celsius(bath), Nanoohm((w + 1) * 100), Nanoohm(R0)) {
+        ToleranceAnswer::Tested(result) => result.passes,
+        ToleranceAnswer::Refused(_) => false,
     }
 }
 
 fn passes(class: u8, bath: i64, error: u64) -> bool
     requires { ⌜ (natAbs bath < 2 ^ 24) × (error < 2 ^ 24) ⌝ }
 {
-    match curve::ratio_at(Celsius(step_off(bath, error))) {
-        RatioAnswer::Ratio(w) => ratio_passes(class, bath, w.0),
-        RatioAnswer::Refused(_) => false,
+    match curve::forward(Celsius(step_off(bath, error))) {
+        ForwardAnswer::At(forward) => {
+            let w = forward.ratio;
+            ratio_passes(class, bath, w.0)
+        }
+        ForwardAnswer::Refused(_) => false,
     }
 }
 

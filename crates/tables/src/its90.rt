@@ -6,9 +6,9 @@ use evidence::say;
 use evidence::say_difference;
 use evidence::say_natural;
 use evidence::say_signed;
+use law::Cell;
 use quantity::Celsius;
 use reference::Inverse;
-use scale::Cell;
 
 // Wr of the points that a slip is held to as well.
 const WR_ZN: u64 = 2_568_917_30_000;

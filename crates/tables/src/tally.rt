@@ -1,3 +1,4 @@
+// How many figures agreed and how many did not.
 use evidence::ONE;
 use evidence::say;
 use evidence::say_natural;

@@ -1,3 +1,4 @@
+-- What is proved of the definitions of `whole`.
 pub mod Any
 pub mod Parts
 pub mod Ring

@@ -1,4 +1,4 @@
--- Division rounded downward ("All roundings are downward, also below zero").
+-- Division rounded downward, whatever the sign.
 use Prim.Native.Nat.{ℕ, suc, _/_}
 use lib.IntN.{ℤ, pos, negsuc, negℤ}
 

@@ -1,4 +1,4 @@
--- "The largest step whose value is not above the one given", for values that rise with the step.
+-- Of the steps whose value does not exceed a given one, the largest, for values that rise with the step.
 use lib.IntN.{ℤ, pos, _+ℤ_}
 use lib.Signed.{_≤ℤ_, _<ℤ_}
 

@@ -1,3 +1,4 @@
+-- `certificate_cases::cut_after` meets its contract.
 use borrow.Author.Needs.{needs}
 use mathlib.Core.Path.{_≡_}
 use Prim.Native.Nat.{_-_, _≤_}

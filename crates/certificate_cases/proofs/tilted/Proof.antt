@@ -1,3 +1,4 @@
+-- `certificate_cases::tilted` meets its contract.
 use borrow.Author.Needs.{needs}
 use native.Mathlib.Omega.{arith}
 use mir.Facts.{toZ-ofZ}

@@ -1,3 +1,4 @@
+-- `curve_cases::any_step` meets its contract.
 use Prim.Native.Nat.{_<_, _^_}
 use lib.IntN.{pos, natAbs, _-ℤ_}
 use Rattle.whole.proofs.Machine.{back}

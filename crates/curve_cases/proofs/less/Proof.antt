@@ -1,3 +1,4 @@
+-- `curve_cases::less` meets its contract.
 use native.Mathlib.Omega.{arith}
 use lib.IntN.{pos}
 use Rattle.whole.proofs.Machine.{back}

@@ -1,3 +1,4 @@
+-- `curve_cases::moved` meets its contract.
 use native.Mathlib.Omega.{arith}
 use lib.IntN.{pos, _-ℤ_}
 use mir.Facts.{toZ-ofZ}

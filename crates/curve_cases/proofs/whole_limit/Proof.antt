@@ -1,3 +1,4 @@
+-- `curve_cases::whole_limit` meets its contract.
 use Prim.Native.Nat.{_<_, _^_}
 use native.Mathlib.Omega.{arith}
 use mir.Facts.{toZ-ofZ}

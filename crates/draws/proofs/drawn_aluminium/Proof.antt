@@ -1,3 +1,4 @@
+-- `draws::drawn_aluminium` meets its contract.
 use borrow.Author.Needs.{needs}
 use native.Mathlib.Omega.{arith}
 use lib.IntN.{pos}

@@ -1,3 +1,4 @@
+-- `fit::beyond` meets its contract.
 use borrow.Author.Needs.{needs}
 use mathlib.Core.Bool.{Bool}
 use mathlib.Core.List.{[], _∷_}
@@ -8,7 +9,7 @@ use mir.Val.{SFits}
 use mir.Facts.{toZ-ofZ}
 use Rattle.whole.proofs.Any.{from-left}
 use Rattle.fit.specs.Fit.{beyond}
-use Rattle.scale.specs.Deviation.{largestCoefficient}
+use Rattle.deviation.specs.Limits.{largestCoefficient}
 use Rattle.fit.proofs.beyond.Statement.{statement}
 use Rattle.fit.proofs.beyond.Tie as tie
 

@@ -1,3 +1,4 @@
+-- `fit::of_one` meets its contract.
 use borrow.Author.Needs.{needs}
 use Rattle.whole.proofs.Machine.{back}
 use Rattle.fit.proofs.of_one.Statement.{statement}

@@ -1,3 +1,4 @@
+-- `fit::over` meets its contract.
 use borrow.Author.Needs.{needs}
 use lib.IntN.{pos, _*ℤ_}
 use mir.Facts.{toZ-ofZ}

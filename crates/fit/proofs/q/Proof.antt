@@ -1,3 +1,4 @@
+-- `fit::q` meets its contract.
 use native.Mathlib.Omega.{arith}
 use mir.Facts.{toZ-ofZ}
 use Rattle.whole.proofs.Machine.{back}

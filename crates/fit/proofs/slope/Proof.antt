@@ -1,3 +1,4 @@
+-- `fit::slope` meets its contract.
 use native.Mathlib.Omega.{arith}
 use mir.Facts.{toZ-ofZ}
 use Rattle.whole.proofs.Parts.{ints, sub-parts}

@@ -1,3 +1,4 @@
+-- `fit::times` meets its contract.
 use borrow.Author.Needs.{needs}
 use lib.IntN.{_*ℤ_}
 use mir.Facts.{toZ-ofZ}

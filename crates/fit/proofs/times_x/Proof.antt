@@ -1,3 +1,4 @@
+-- `fit::times_x` meets its contract.
 use borrow.Author.Needs.{needs}
 use mir.Syntax.{w64}
 use mir.Val.{SFits}

@@ -1,3 +1,4 @@
+-- `fit::too_large` meets its contract.
 use borrow.Author.Needs.{needs}
 use mir.Facts.{toZ-ofZ}
 use Rattle.fit.proofs.too_large.Statement.{statement}

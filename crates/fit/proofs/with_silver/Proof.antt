@@ -1,10 +1,11 @@
+-- `fit::with_silver` meets its contract.
 use borrow.Author.Needs.{needs}
 use native.Mathlib.Omega.{arith}
 use mir.Facts.{toZ-ofZ}
 use Rattle.whole.proofs.Size.{abs-sub, abs→fits}
 use Rattle.whole.proofs.Machine.{back}
-use Rattle.scale.specs.Deviation.{plainDeviation}
-use Rattle.scale.proofs.Deviations.{plain-size}
+use Rattle.deviation.specs.Working.{plainDeviation}
+use Rattle.deviation.proofs.Sized.{plain-size}
 use Rattle.fit.proofs.Within.{all-within}
 use Rattle.fit.proofs.Sizes as sizes
 use Rattle.fit.proofs.with_silver.Statement.{statement}
@@ -19,9 +20,9 @@ coefficient-d-requires c κs =
     let k = s .args .k in
     let ag = s .args .ag in
     let w = all-within k (s .pre .0) in
-    let plain = plain-size (k .a) (k .b) (k .c) (ag .x) (record { a-size = w .a; b-size = w .b; c-size = w .c; x-size = sizes.x-size ag (s .pre .1 .2) }) in
+    let plain = plain-size k w (ag .x) (sizes.x-size ag (s .pre .1 .2)) in
     rw (back (c .excess .result) (c .excess .ok), c .excess .ensures)
-    (omega (arith, abs-sub (ag .delta) (plainDeviation (k .a) (k .b) (k .c) (ag .x)), sizes.δ-size ag (s .pre .1 .2), plain), s .pre .1)
+    (omega (arith, abs-sub (ag .delta) (plainDeviation k (ag .x)), sizes.δ-size ag (s .pre .1 .2), plain), s .pre .1)
 
 returns : tie.Need-returns
 returns c =

@@ -1,3 +1,4 @@
+-- `ground::any_size` meets its contract.
 use Prim.Native.Nat.{_^_}
 use native.Mathlib.Nat.{div-le-self}
 use native.Mathlib.Omega.{arith}

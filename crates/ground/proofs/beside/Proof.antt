@@ -1,3 +1,4 @@
+-- `ground::beside` meets its contract.
 use Rattle.ground.proofs.Laws.{beside-fits}
 use lib.IntN.{pos}
 use native.Mathlib.Omega.{arith}

@@ -1,3 +1,4 @@
+-- `ground::kelvin_case` meets its contract.
 use Rattle.ground.proofs.Laws.{from-zero}
 use lib.IntN.{pos}
 use native.Mathlib.Omega.{arith}

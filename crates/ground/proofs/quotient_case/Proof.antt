@@ -1,3 +1,4 @@
+-- `ground::quotient_case` meets its contract.
 use mir.Facts.{toZ-ofZ}
 use Rattle.whole.proofs.Size.{abs→fits}
 use Rattle.ground.proofs.Laws.{divisible}

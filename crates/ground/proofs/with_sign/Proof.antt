@@ -1,3 +1,4 @@
+-- `ground::with_sign` meets its contract.
 use borrow.Author.Needs.{needs}
 use lib.IntN.{pos, _-ℤ_}
 use Rattle.whole.proofs.Parts.{ints, sub-parts, abs-parts, one-part}

@@ -1,3 +1,4 @@
+-- `ground::working_value` meets its contract.
 use borrow.Author.Needs.{needs}
 use Rattle.whole.proofs.Parts.{ints}
 use Rattle.whole.proofs.Machine.{back}

@@ -1,8 +1,6 @@
-use Rattle.lines.proofs.Scan.{append-fits, append-over}
-use lib.ListN.{length}
-use Prim.Native.Nat.{_+_, _≤_, _<_}
+-- `lines::append` meets its contract: s fits, or all places but the last are filled and its last byte goes there.
+use Rattle.lines.proofs.Appending.{append-fits, append-over}
 use native.Mathlib.Omega.{arith}
-use mathlib.Core.Path.{_∙_}
 use borrow.Author.Needs.{needs}
 use Rattle.lines.proofs.append.Statement.{statement}
 use Rattle.lines.proofs.append.Tie as tie
@@ -22,8 +20,7 @@ same-length c = search needs
 returns : tie.Need-returns
 returns c =
     let a = c .before .before .before .before .before .before .before in
-    let fits : a .args .count + length (a .args .s .now) ≤ 202 = omega (arith, a .pre, c .before .before .before .before .if1 .taken) in
-    (fits, append-fits (a .args .held .now) (a .args .s .now) (a .args .count) (a .pre .0) (c .before .before .copy .last .0) fits (c .before .before .copy .ensures))
+    append-fits (a .args .held .now) (a .args .s .now) (a .args .count) (a .pre .0) (a .pre .1) (c .before .before .copy .last .0) (omega (arith, a .pre, c .before .before .before .before .if1 .taken)) (c .before .before .copy .ensures)
 
 fill-requires : tie.Need-fill-requires
 fill-requires c κs = search needs
@@ -43,8 +40,7 @@ same-length-2 c = search needs
 returns-2 : tie.Need-returns-2
 returns-2 c =
     let a = c .before .before .before .before .before .before .before .before in
-    let over : 202 < a .args .count + length (a .args .s .now) = omega (arith, a .pre, c .before .before .before .before .before .if1 .left) in
-    (omega arith, append-over (a .args .held .now) (a .args .s .now) (a .args .count) (a .pre .0) (c .before .before .before .fill .last .0) (c .before .before .before .fill .kept .0 ∙ a .pre .0) (a .pre .1) over (c .before .before .before .fill .ensures))
+    append-over (a .args .held .now) (a .args .s .now) (a .args .count) (a .pre .0) (a .pre .1) (c .before .before .before .fill .last .0) (omega (arith, a .pre, c .before .before .before .before .before .if1 .left)) (c .before .before .before .fill .ensures)
 
 pub append-spec : {M : Type 1} → statement M
 append-spec =

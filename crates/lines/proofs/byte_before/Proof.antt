@@ -1,3 +1,4 @@
+-- `lines::byte_before` meets its contract, before the first byte and after it.
 use borrow.Author.Tests.{ne-eqb}
 use borrow.Author.Needs.{needs}
 use Rattle.lines.proofs.byte_before.Statement.{statement}

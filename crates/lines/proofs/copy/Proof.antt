@@ -1,23 +1,22 @@
-use native.Mathlib.Nat.{add-zero}
-use Rattle.lines.proofs.Scan.{put-on}
-use lib.Seq.{take-all}
-use lib.ListN.{length, take, length-set}
-use Prim.Native.Nat.{ℕ, _+_, _-_, _≤_}
+-- `lines::copy` meets its contract: after each turn one byte more of s stands in the buffer.
+use native.Mathlib.Numerals.{add-one}
+use lib.Seq.{paste, paste-zero, paste-suc, take-length}
+use lib.ListN.{length, length-set}
+use Prim.Native.Nat.{_-_, _≤_}
 use native.Mathlib.Omega.{arith}
 use mathlib.Core.Path.{_≡_, refl, ap, _∙_}
-use mathlib.Core.List.{List, _++_, append-nil}
 use borrow.Author.Needs.{needs}
 use Rattle.lines.proofs.copy.Statement.{statement}
 use Rattle.lines.proofs.copy.Tie as tie
 
 abbrev Inv-loop : tie.InvT-loop
-Inv-loop held₀ at s i₀ held i = (i ≤ length s) × (length held ≡ length held₀) × (take (at + i) held ≡ take at held₀ ++ take i s)
+Inv-loop held₀ at s i₀ held i = (i ≤ length s) × (held ≡ paste held₀ at s i) × (length held ≡ length held₀)
 
 abbrev μ-loop : tie.MeasureT-loop
 μ-loop held₀ at s i₀ held i = length s - i
 
 loop-holds : tie.Need-loop-holds Inv-loop μ-loop
-loop-holds c = (omega arith, refl, rw (add-zero, append-nil))
+loop-holds c = (omega arith, paste-zero (c .args .held .now) (c .args .at) (c .args .s .now), refl)
 
 shared-slice-read-held : tie.Need-shared-slice-read-held Inv-loop μ-loop
 shared-slice-read-held c = search needs
@@ -39,8 +38,8 @@ loop-again c =
     let l = c .before .before in
     let a = l .before .args in (
       omega arith,
-      simp length-set (l .loop .inv .1),
-      put-on (a .held .now) (l .loop .held) (a .s .now) (a .at) (l .loop .i) (omega arith) (c .before .loop-test .taken) (l .loop .inv .2),
+      rw (l .loop .inv .1, add-one) (paste-suc (a .held .now) (a .at) (a .s .now) (l .loop .i) 0 (omega arith) (omega arith)),
+      simp length-set (l .loop .inv .2),
     )
 
 same-length : tie.Need-same-length Inv-loop μ-loop
@@ -50,8 +49,8 @@ returns : tie.Need-returns Inv-loop μ-loop
 returns c =
     let l = c .before in
     let a = l .before .args in
-    let e : l .loop .i ≡ length (a .s .now) = omega arith in
-    rw (← e) (l .loop .inv .2 ∙ ap (λ (x : List ℕ). take (a .at) (a .held .now) ++ x) (take-all (l .loop .i) (a .s .now) (omega arith)))
+    let end : l .loop .i ≡ length (a .s .now) = omega arith in
+    l .loop .inv .1 ∙ ap (paste (a .held .now) (a .at) (a .s .now)) end ∙ rw (take-length (a .s .now))
 
 pub copy-spec : {M : Type 1} → statement M
 copy-spec =

@@ -1,9 +1,10 @@
-use Rattle.lines.proofs.Scan.{fill-copied, fill-full}
+-- `lines::fill` meets its contract: it copies the bytes that fill all but the last place, or none where those places are taken.
+use Rattle.lines.proofs.Appending.{fill-copied, fill-full}
 use lib.ListN.{length, take}
 use lib.Seq.{length-take-le}
 use Prim.Native.Nat.{_-_}
 use native.Mathlib.Omega.{arith}
-use mathlib.Core.Path.{_≡_, sym}
+use mathlib.Core.Path.{_≡_, sym, _∙_}
 use borrow.Author.Needs.{needs}
 use Rattle.lines.proofs.fill.Statement.{statement}
 use Rattle.lines.proofs.fill.Tie as tie
@@ -28,7 +29,7 @@ same-length c = search needs
 returns : tie.Need-returns
 returns c =
     let a = c .before .before .before .before .before .before .before .before in
-    fill-copied (a .args .held .now) (a .args .s .now) (a .args .count) (a .pre .0) (c .before .before .copy .last .0) (c .before .before .before .before .before .if1 .taken) (a .pre .2) (c .before .before .copy .ensures)
+    c .before .before .copy .ensures ∙ fill-copied (a .args .held .now) (a .args .s .now) (a .args .count) (a .pre .0) (a .pre .1) (c .before .before .before .before .before .if1 .taken) (a .pre .2)
 
 returns-2 : tie.Need-returns-2
 returns-2 c =

@@ -1,3 +1,4 @@
+-- `lines::line_end` meets its contract: none of the bytes passed ends a line.
 use Rattle.lines.proofs.Scan.{NoEndAfter, no-end-start, no-end-more, ends-at, before-next}
 use Rattle.lines.specs.Lines.{endsAfter}
 use Rattle.lines.specs.Ends.{byteBefore}

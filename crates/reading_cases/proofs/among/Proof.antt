@@ -1,3 +1,4 @@
+-- `reading_cases::among` meets its contract.
 use borrow.Author.Needs.{needs}
 use Prim.Native.Nat.{_<_}
 use native.Mathlib.Nat.{mod-lt}

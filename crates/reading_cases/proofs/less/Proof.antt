@@ -1,3 +1,4 @@
+-- `reading_cases::less` meets its contract.
 use borrow.Author.Needs.{needs}
 use native.Mathlib.Omega.{arith}
 use lib.IntN.{pos}

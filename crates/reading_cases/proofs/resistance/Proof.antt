@@ -1,3 +1,4 @@
+-- `reading_cases::resistance` meets its contract.
 use borrow.Author.Needs.{needs}
 use Prim.Native.Nat.{_*_, _≤_, _^_}
 use native.Mathlib.Nat.{mul-le-mul, le-of-lt}

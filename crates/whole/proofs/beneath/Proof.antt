@@ -1,3 +1,4 @@
+-- `whole::beneath` meets its contract.
 use mathlib.Core.Path.{_≡_}
 use lib.IntN.{pos, negsuc, _-ℤ_}
 use mir.Facts.{toZ-ofZ}

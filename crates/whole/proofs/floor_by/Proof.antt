@@ -1,3 +1,4 @@
+-- `whole::floor_by` meets its contract.
 use borrow.Author.Needs.{needs}
 use mathlib.Core.Path.{_≡_}
 use native.Mathlib.Nat.{div-le-self}

@@ -1,3 +1,4 @@
+-- `whole::floor_negated` meets its contract.
 use borrow.Author.Needs.{needs}
 use mathlib.Core.Path.{_≡_, refl}
 use Prim.Native.Nat.{ℕ, zero, suc, _-_, _/_, _<_}

@@ -1,3 +1,4 @@
+-- `whole::magnitude` meets its contract.
 use borrow.Author.Needs.{needs}
 use mathlib.Core.Path.{_≡_}
 use lib.IntN.{pos, negsuc}

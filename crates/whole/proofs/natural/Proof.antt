@@ -1,3 +1,4 @@
+-- `whole::natural` meets its contract.
 use mathlib.Core.Path.{sym}
 use lib.Signed.{yes-nonNeg, pos-natAbs}
 use mir.Syntax.{w64}

@@ -1,3 +1,4 @@
+-- `whole::negative` meets its contract.
 use borrow.Author.Needs.{needs}
 use lib.IntN.{pos, negsuc, _-ℤ_}
 use Rattle.whole.proofs.Parts.{ints, sub-parts, one-part, parts→fits}

@@ -1,3 +1,4 @@
+-- `whole::signed` meets its contract.
 use borrow.Author.Needs.{needs}
 use mir.Syntax.{w64}
 use mir.Facts.{toZ-pos}

@@ -1,3 +1,4 @@
+-- `curve::guess::scaled` meets its contract.
 use Prim.Native.Nat.{_*_, _/_, _≤_}
 use native.Mathlib.Nat.{mul-le-mul}
 use native.Mathlib.Omega.{arith}

@@ -1,3 +1,4 @@
+-- `curve::tolerance::allowed` meets its contract.
 use Prim.Native.Nat.{_*_, _<_, _≤_, _^_}
 use native.Mathlib.Nat.{mul-le-mul, le-of-lt}
 use native.Mathlib.Omega.{arith}

@@ -1,3 +1,4 @@
+-- `entry::entry::alike` meets its contract.
 use borrow.Author.Needs.{needs}
 use mir.Facts.{toZ-ofZ}
 use Rattle.entry.proofs.entry.alike.Statement.{statement}

@@ -1,3 +1,4 @@
+-- `entry::entry::clashes` meets its contract.
 use borrow.Author.Needs.{needs}
 use Rattle.entry.proofs.entry.clashes.Statement.{statement}
 use Rattle.entry.proofs.entry.clashes.Tie as tie

@@ -1,3 +1,4 @@
+-- `entry::entry::higher` meets its contract.
 use borrow.Author.Tests.{lt-ltb, le-ltb}
 use Rattle.entry.proofs.entry.higher.Statement.{statement}
 use Rattle.entry.proofs.entry.higher.Tie as tie

@@ -1,3 +1,4 @@
+-- `entry::entry::is_live` meets its contract.
 use borrow.Author.Needs.{needs}
 use Rattle.entry.proofs.entry.is_live.Statement.{statement}
 use Rattle.entry.proofs.entry.is_live.Tie as tie

@@ -1,3 +1,4 @@
+-- `entry::entry::joined` meets its contract.
 use borrow.Author.Needs.{needs}
 use mathlib.Core.Path.{sym, _∙_}
 use Rattle.entry.proofs.entry.joined.Statement.{statement}

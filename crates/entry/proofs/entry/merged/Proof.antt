@@ -1,3 +1,4 @@
+-- `entry::entry::merged` meets its contract.
 use borrow.Author.Needs.{needs}
 use borrow.Author.Tests.{lt-ltb, le-ltb}
 use Rattle.entry.proofs.entry.merged.Statement.{statement}

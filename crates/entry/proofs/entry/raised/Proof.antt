@@ -1,3 +1,4 @@
+-- `entry::entry::raised` meets its contract.
 use borrow.Author.Needs.{needs}
 use Rattle.entry.proofs.entry.raised.Statement.{statement}
 use Rattle.entry.proofs.entry.raised.Tie as tie

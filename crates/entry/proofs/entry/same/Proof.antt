@@ -1,45 +1,13 @@
+-- `entry::entry::same` meets its contract.
 use borrow.Author.Needs.{needs}
-use mir.Syntax.{w64}
-use mir.Val.{SFits}
-use mir.Facts.{toZ-ofZ}
 use Rattle.entry.proofs.entry.same.Statement.{statement}
 use Rattle.entry.proofs.entry.same.Tie as tie
 
-alike-requires : tie.Need-alike-requires
-alike-requires c κs = search needs
-
-alike-requires-2 : tie.Need-alike-requires-2
-alike-requires-2 c κs = search needs
-
-alike-requires-3 : tie.Need-alike-requires-3
-alike-requires-3 c κs = search needs
-
-alike-requires-4 : tie.Need-alike-requires-4
-alike-requires-4 c κs = search needs
-
-a-known : (c : tie.After-struct-told2) → SFits w64 (c .before .before .before .before .before .before .before .before .args .k .a) × SFits w64 (c .before .before .before .before .before .before .before .before .args .l .a)
-a-known c = (search needs, search needs)
-
-b-known : (c : tie.After-struct-told4) → SFits w64 (c .before .before .before .before .before .before .before .before .before .before .before .args .k .b) × SFits w64 (c .before .before .before .before .before .before .before .before .before .before .before .args .l .b)
-b-known c = (search needs, search needs)
-
-c-known : (c : tie.After-struct-told6) → SFits w64 (c .before .before .before .before .before .before .before .before .before .before .before .before .before .before .args .k .c) × SFits w64 (c .before .before .before .before .before .before .before .before .before .before .before .before .before .before .args .l .c)
-c-known c = (search needs, search needs)
-
-d-known : (c : tie.After-struct-told8) → SFits w64 (c .before .before .before .before .before .before .before .before .before .before .before .before .before .before .before .before .before .args .k .d) × SFits w64 (c .before .before .before .before .before .before .before .before .before .before .before .before .before .before .before .before .before .args .l .d)
-d-known c = (search needs, search needs)
+same-places-requires : tie.Need-same-places-requires
+same-places-requires c κs = search needs
 
 returns : tie.Need-returns
-returns c =
-    let d = c .before .before in
-    let l = d .before .before .before in
-    let b = l .before .before .before in
-    let a = b .before .before .before in
-    let da = a-known (a .before) in
-    let db = b-known (b .before) in
-    let dc = c-known (l .before) in
-    let dd = d-known (d .before) in
-    rw (a .alike .ensures, toZ-ofZ (da .0), toZ-ofZ (da .1), b .alike2 .ensures, toZ-ofZ (db .0), toZ-ofZ (db .1), l .alike3 .ensures, toZ-ofZ (dc .0), toZ-ofZ (dc .1), d .alike4 .ensures, toZ-ofZ (dd .0), toZ-ofZ (dd .1))
+returns c = rw (c .same-places .ensures)
 
 pub same-spec : {M : Type 1} → statement M
-same-spec = tie.close (tie.spec alike-requires alike-requires-2 alike-requires-3 alike-requires-4 returns)
+same-spec = tie.close (tie.spec same-places-requires returns)

@@ -1,3 +1,4 @@
+-- `evidence::figure::digits` meets its contract.
 use borrow.Author.Needs.{needs}
 use native.Mathlib.Omega.{arith}
 use lib.ListN.{length-take, length-set}

@@ -1,3 +1,4 @@
+-- `launchlist::page::is_help` is safe and ends.
 use lib.ListN.{length}
 use mathlib.Core.Path.{_≡_}
 use Prim.Native.Nat.{_-_}

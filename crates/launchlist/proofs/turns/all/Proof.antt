@@ -1,3 +1,4 @@
+-- `launchlist::turns::all` is safe and ends: turns are counted down.
 use lib.ListN.{length}
 use mathlib.Core.Path.{_≡_}
 use borrow.Author.Needs.{needs}

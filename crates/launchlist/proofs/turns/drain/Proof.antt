@@ -1,3 +1,4 @@
+-- `launchlist::turns::drain` is safe and ends: each turn uses a byte of the chunk.
 use Rattle.list.proofs.Feeds.{fed-long, part-is}
 use Rattle.list.proofs.Whole.{goes-on}
 use lib.Seq.{length-take-le}

@@ -1,3 +1,4 @@
+-- `launchlist::turns::finish` is safe: what is written lies within the buffer.
 use Rattle.line.proofs.Placing.{placed-within}
 use lib.Seq.{length-take-le}
 use lib.ListN.{length}

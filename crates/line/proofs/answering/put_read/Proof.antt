@@ -1,12 +1,14 @@
+-- `line::answering::put_read` meets its contract: four texts, each where the one before it ended, or no room.
 use Rattle.line.proofs.Placing.{Four, placed-four, not-placed-four}
 use Rattle.line.proofs.Decimals.{word-digits}
-use Rattle.line.specs.Lent.{Placed}
+use Rattle.line.specs.Lent.{PlacedAs}
 use Rattle.line.specs.Decimal.{decimal}
 use Rattle.whole.specs.Text.{ascii}
 use lib.ListN.{length}
 use Prim.Native.Nat.{ℕ, _+_, _-_, _<_}
 use native.Mathlib.Omega.{arith}
 use mathlib.Core.List.{List, _++_, append-assoc}
+use mathlib.Core.Bool.{true}
 use mathlib.Core.Path.{refl, subst}
 use borrow.Author.Needs.{needs}
 use Rattle.line.proofs.answering.put_read.Statement.{statement}
@@ -24,12 +26,15 @@ add-after-digits c = omega (arith, c .before .before .before .before .pre, c .wi
 add-if1 : tie.Need-add-if1
 add-if1 c = omega (arith, c .before .before .before .before .pre, c .width .ensures, word-digits (c .before .before .before .before .args .size) (omega (arith, c .before .before .before .before .fits .size)))
 
+no-room-requires : tie.Need-no-room-requires
+no-room-requires c κs = search needs
+
 returns : tie.Need-returns
 returns c =
-    let s = c .before .before .before .before .before .args in
-    let no-room : length (s .out .now) < length (s .names .now) + length (s .sign .now) + length (decimal (s .size)) + 4 = omega (arith, c .if1 .taken, c .before .width .ensures) in
-    subst (λ (t : List ℕ). Placed 0 (t ++ ascii ",0\r\n") (s .out .now) (s .out .now) (record { code = 11; wrote = 0 })) (append-assoc (s .names .now) (s .sign .now) (decimal (s .size)))
-    (not-placed-four 0 (s .names .now) (s .sign .now) (decimal (s .size)) (ascii ",0\r\n") (s .out .now) no-room)
+    let s = c .before .before .before .before .before .before .args in
+    let short : length (s .out .now) < length (s .names .now) + length (s .sign .now) + length (decimal (s .size)) + 4 = omega (arith, c .before .if1 .taken, c .before .before .width .ensures) in
+    subst (λ (t : List ℕ). PlacedAs 0 (t ++ ascii ",0\r\n") (s .out .now) (s .out .now) (c .no-room .result)) (append-assoc (s .names .now) (s .sign .now) (decimal (s .size)))
+    (not-placed-four 0 (s .names .now) (s .sign .now) (decimal (s .size)) (ascii ",0\r\n") (s .out .now) (c .no-room .result) (c .no-room .ensures) short)
 
 put-requires : tie.Need-put-requires
 put-requires c κs = search needs
@@ -73,7 +78,7 @@ returns-2 c =
       end-is = refl;
       fits = c .before .before .before .before .before .before .before .before .before .before .before .before .before .before .before .before .before .if1 .left;
     } in
-    subst (λ (t : List ℕ). Placed 0 (t ++ ascii ",0\r\n") (s .out .now) (c .before .before .put3 .last .0) (record { code = 0; wrote = wrote })) (append-assoc (s .names .now) (s .sign .now) (decimal (s .size)))
+    subst (λ (t : List ℕ). PlacedAs 0 (t ++ ascii ",0\r\n") (s .out .now) (c .before .before .put3 .last .0) (record { answer = record { code = 0; wrote = wrote }; fitted = true })) (append-assoc (s .names .now) (s .sign .now) (decimal (s .size)))
     (placed-four 0 written)
 
 pub put-read-spec : {M : Type 1} → statement M
@@ -84,6 +89,7 @@ put-read-spec =
     add-after-sign
     add-after-digits
     add-if1
+    no-room-requires
     returns
     put-requires
     put-requires-2

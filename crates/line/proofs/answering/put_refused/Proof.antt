@@ -1,3 +1,4 @@
+-- `line::answering::put_refused` meets its contract: four texts, each where the one before it ended, or no room.
 use Rattle.line.proofs.Placing.{Four, placed-four, not-placed-four}
 use Rattle.line.proofs.Decimals.{word-digits}
 use Rattle.line.specs.Decimal.{decimal}
@@ -22,11 +23,14 @@ add-after-digits-2 c = omega (arith, c .before .before .before .pre, c .width .e
 add-if1 : tie.Need-add-if1
 add-if1 c = omega (arith, c .before .before .before .pre, c .width .ensures, word-digits (c .before .before .before .args .number) (omega (arith, c .before .before .before .fits .number)))
 
+no-room-requires : tie.Need-no-room-requires
+no-room-requires c κs = search needs
+
 returns : tie.Need-returns
 returns c =
-    let s = c .before .before .before .before .args in
-    let no-room : length (s .out .now) < length (s .names .now) + 1 + length (decimal (s .number)) + 2 = omega (arith, c .if1 .taken, c .before .width .ensures) in
-    not-placed-four (s .number) (s .names .now) (ascii ",") (decimal (s .number)) (ascii "\r\n") (s .out .now) no-room
+    let s = c .before .before .before .before .before .args in
+    let short : length (s .out .now) < length (s .names .now) + 1 + length (decimal (s .number)) + 2 = omega (arith, c .before .if1 .taken, c .before .before .width .ensures) in
+    not-placed-four (s .number) (s .names .now) (ascii ",") (decimal (s .number)) (ascii "\r\n") (s .out .now) (c .no-room .result) (c .no-room .ensures) short
 
 put-requires : tie.Need-put-requires
 put-requires c κs = search needs
@@ -86,6 +90,7 @@ put-refused-spec =
     add-after-digits
     add-after-digits-2
     add-if1
+    no-room-requires
     returns
     put-requires
     slice-aggregate-put

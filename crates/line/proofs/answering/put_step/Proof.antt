@@ -1,8 +1,9 @@
+-- `line::answering::put_step` meets its contract: a minus is written before a step below 0.
 use lib.Signed.{ltZ}
 use lib.IntN.{natAbs}
 use mathlib.Core.Bool.{true, false}
 use Rattle.line.proofs.Answers.{step-below, step-above}
-use Rattle.line.specs.Lent.{Placed}
+use Rattle.line.specs.Lent.{PlacedAs}
 use Rattle.line.specs.Writing.{readText}
 use Rattle.line.specs.Decimal.{decimal}
 use Rattle.whole.specs.Text.{ascii}
@@ -38,7 +39,7 @@ returns c =
     let known : SFits w64 step = search needs in
     let size : c .before .before .before .before .before .before .before .before .magnitude .result ≡ natAbs step = c .before .before .before .before .before .before .before .before .magnitude .ensures ∙ ap natAbs (toZ-ofZ known) in
     let below : ltZ step (pos 0) ≡ true = sym (c .before .before .before .before .before .before .less .ensures ∙ ap (λ (z : ℤ). ltZ z (pos 0)) (toZ-ofZ known)) ∙ c .before .before .before .before .before .if1 .taken in
-    subst (λ (t : List ℕ). Placed 0 (readText (c .before .before .before .before .before .before .before .before .before .before .before .before .args .names .now) t) (c .before .before .before .before .before .before .before .before .before .before .before .before .args .out .now) (c .before .before .put-read .last .1 .1 .1 .0) (c .before .before .put-read .result))
+    subst (λ (t : List ℕ). PlacedAs 0 (readText (c .before .before .before .before .before .before .before .before .before .before .before .before .args .names .now) t) (c .before .before .before .before .before .before .before .before .before .before .before .before .args .out .now) (c .before .before .put-read .last .1 .1 .1 .0) (c .before .before .put-read .result))
     (ap (λ (n : ℕ). ascii "-" ++ decimal n) size ∙ step-below step below) (c .before .before .put-read .ensures)
 
 slice-aggregate-put-read-2 : tie.Need-slice-aggregate-put-read-2
@@ -56,7 +57,7 @@ returns-2 c =
     let known : SFits w64 step = search needs in
     let size : c .before .before .before .before .before .before .before .before .magnitude .result ≡ natAbs step = c .before .before .before .before .before .before .before .before .magnitude .ensures ∙ ap natAbs (toZ-ofZ known) in
     let above : ltZ step (pos 0) ≡ false = sym (c .before .before .before .before .before .before .less .ensures ∙ ap (λ (z : ℤ). ltZ z (pos 0)) (toZ-ofZ known)) ∙ c .before .before .before .before .before .if1 .left in
-    subst (λ (t : List ℕ). Placed 0 (readText (c .before .before .before .before .before .before .before .before .before .before .before .before .args .names .now) t) (c .before .before .before .before .before .before .before .before .before .before .before .before .args .out .now) (c .before .before .put-read2 .last .1 .1 .1 .0) (c .before .before .put-read2 .result))
+    subst (λ (t : List ℕ). PlacedAs 0 (readText (c .before .before .before .before .before .before .before .before .before .before .before .before .args .names .now) t) (c .before .before .before .before .before .before .before .before .before .before .before .before .args .out .now) (c .before .before .put-read2 .last .1 .1 .1 .0) (c .before .before .put-read2 .result))
     (ap decimal size ∙ step-above step above) (c .before .before .put-read2 .ensures)
 
 pub put-step-spec : {M : Type 1} → statement M

@@ -1,3 +1,4 @@
+-- `line::decimal::put_digits` meets its contract: the digits still to be written stand before those that are.
 use Rattle.line.proofs.Decimals.{Writing, write-start, write-more, write-last, some-digit}
 use Prim.Native.Nat.{_-_}
 use native.Mathlib.Omega.{arith}

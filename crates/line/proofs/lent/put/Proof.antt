@@ -1,3 +1,4 @@
+-- `line::lent::put` meets its contract: after each turn one byte more of the text stands in the buffer.
 use Rattle.line.proofs.Overs.{over-pasted}
 use lib.Seq.{paste, paste-zero, paste-suc}
 use lib.ListN.{length-set}

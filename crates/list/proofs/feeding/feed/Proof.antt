@@ -1,3 +1,4 @@
+-- `list::feeding::feed` meets its contract, with a partial line held and with none.
 use Rattle.list.proofs.Feeds.{held-is, none-held}
 use Rattle.lines.specs.Held.{mostHeld}
 use lib.ListN.{length}

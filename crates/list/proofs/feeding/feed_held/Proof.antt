@@ -1,5 +1,7 @@
+-- `list::feeding::feed_held` meets its contract: the partial line is held on, or its answer has no room, or it is answered and the rest of the chunk is fed.
 use Rattle.list.proofs.Feeds.{Written, replied-written, replied-short, last-held, some-held, held-begun, held-full, held-rest, part-is, put-last, fed-long}
 use Rattle.lines.proofs.Lines.{front-take}
+use Rattle.lines.proofs.Appending.{appended-held, appended-few}
 use Rattle.lines.specs.Ends.{EndsAt}
 use Rattle.list.specs.Replies.{RepliedAs}
 use Rattle.lines.specs.Held.{mostHeld, capped}
@@ -44,12 +46,12 @@ append-requires c κs = search needs
 
 -- what is held of it then
 line-known : (c : tie.After-append) → take (c .append .result) (c .append .last .0) ≡ capped (lineOf (c .before .before .before .before .before .before .before .args .state) ++ take (c .before .before .before .line-end .result) (c .before .before .before .before .before .before .before .args .chunk .now))
-line-known c = c .append .ensures .1 ∙ ap (λ (l : List ℕ). capped (l ++ take (c .before .before .before .line-end .result) (c .before .before .before .before .before .before .before .args .chunk .now))) (sym (c .before .before .before .before .before .before .before .pre .2))
+line-known c = appended-held (c .append .ensures) ∙ ap (λ (l : List ℕ). capped (l ++ take (c .before .before .before .line-end .result) (c .before .before .before .before .before .before .before .args .chunk .now))) (sym (c .before .before .before .before .before .before .before .pre .2))
 
 held-long : (c : tie.After-append) → c .append .result ≤ length (c .append .last .0)
 held-long c =
     let long : length (c .before .before .before .before .before .before .before .args .state .held) ≡ mostHeld = search needs in
-    omega (arith, c .append .ensures .0, c .append .kept .0)
+    omega (arith, appended-few (c .append .ensures), c .append .kept .0)
 
 returns : tie.Need-returns
 returns c = held-begun (c .before .before .before .before .before .before .before .before .before .args .state) (c .before .before .before .before .before .before .before .before .before .args .chunk .now) (c .before .before .before .before .before .before .before .before .before .args .out .now) (c .before .before .before .before .before .line-end .result) (c .before .before .append .last .0) (c .before .before .append .result) (scanned (c .before .before .before .before .before)) (line-known (c .before .before)) (c .if1 .taken)
@@ -66,7 +68,7 @@ sub-held : tie.Need-sub-held
 sub-held c = some-byte c
 
 array-share-prefix-held : tie.Need-array-share-prefix-held
-array-share-prefix-held c = search needs
+array-share-prefix-held c = omega (arith, held-long (c .before .before))
 
 slice-aggregate-reply-to : tie.Need-slice-aggregate-reply-to
 slice-aggregate-reply-to c = sym (length-take-le (c .before .before .before .append .result - 1) (c .before .before .before .append .last .0) (omega (arith, held-long (c .before .before .before))))
@@ -87,7 +89,7 @@ same-length c = search needs
 returns-2 : tie.Need-returns-2
 returns-2 c =
     held-full (c .before .before .before .before .before .before .before .before .before .before .before .before .before .before .before .before .before .args .state) (c .before .before .before .before .before .before .before .before .before .before .before .before .before .before .before .before .before .args .chunk .now) (c .before .before .before .before .before .before .before .before .before .before .before .before .before .before .before .before .before .args .out .now) (c .before .before .before .before .before .before .before .before .before .before .before .before .before .line-end .result) (c .before .before .before .before .before .before .before .before .before .before .append .last .0) (c .before .before .before .before .before .before .before .before .before .before .append .result) (scanned (c .before .before .before .before .before .before .before .before .before .before .before .before .before)) (line-known (c .before .before .before .before .before .before .before .before .before .before)) (more (c .before .before .before .before .before .before .before .before))
-    (c .before .before .before .before .before .reply-to .last .1 .1 .0)
+    (c .before .before .before .before .before .reply-to .last .1 .1 .0) (c .before .before .before .before .before .reply-to .result)
     (replied-short (c .before .before .before .before .before .before .before .before .before .before .before .before .before .before .before .before .before .args .state .stage) (allButLast (take (c .before .before .before .before .before .before .before .before .before .before .append .result) (c .before .before .before .before .before .before .before .before .before .before .append .last .0))) (c .before .before .before .before .before .before .before .before .before .before .before .before .before .before .before .before .before .args .out .now) (c .before .before .before .before .before .reply-to .last .1 .1 .0) (c .before .before .before .before .before .reply-to .result) (reply (c .before .before .before .before .before)) (c .if2 .taken))
 
 written : (c : tie.Else2)
@@ -97,7 +99,7 @@ written c =
     (reply (c .before .before .before .before .before)) (c .if2 .left)
 
 -- the answer lies within the buffer
-at-within : (c : tie.Else2) → c .before .before .before .before .before .reply-to .result .answer .wrote ≤ length (c .before .before .before .before .before .reply-to .last .1 .1 .0)
+at-within : (c : tie.Else2) → c .before .before .before .before .before .reply-to .result .placing .answer .wrote ≤ length (c .before .before .before .before .before .reply-to .last .1 .1 .0)
 at-within c = omega (arith, written c .wrote, written c .fits, c .before .before .before .before .before .reply-to .kept .1 .1 .0)
 
 add-from : tie.Need-add-from
@@ -127,36 +129,37 @@ feed-lines-requires c κs = search needs
 -- the rest of the chunk, fed into the rest of the buffer
 rest : (c : tie.After-feed-lines)
     → FedAs (record { held = c .before .before .before .before .before .before .before .before .before .before .before .before .before .append .last .0; count = 0; stage = c .before .before .before .before .before .before .before .before .reply-to .result .stage }) (drop (c .before .before .before .before .before .before .before .before .before .before .before .before .before .before .before .before .line-end .result + 1) (c .before .before .before .before .before .before .before .before .before .before .before .before .before .before .before .before .before .before .before .before .args .chunk .now))
-    (drop (c .before .before .before .before .before .before .before .before .reply-to .result .answer .wrote) (c .before .before .before .before .before .before .before .before .reply-to .last .1 .1 .0)) (c .feed-lines .last .1 .1 .0) (c .feed-lines .result)
+    (drop (c .before .before .before .before .before .before .before .before .reply-to .result .placing .answer .wrote) (c .before .before .before .before .before .before .before .before .reply-to .last .1 .1 .0)) (c .feed-lines .last .1 .1 .0) (c .feed-lines .result)
 rest c =
     let first : State = record { held = c .before .before .before .before .before .before .before .before .before .before .before .before .before .append .last .0; count = 0; stage = c .before .before .before .before .before .before .before .before .reply-to .result .stage } in
     let from = c .before .before .before .before .before .before .before .before .before .before .before .before .before .before .before .before .line-end .result + 1 in
     let chunk = c .before .before .before .before .before .before .before .before .before .before .before .before .before .before .before .before .before .before .before .before .args .chunk .now in
-    let at = c .before .before .before .before .before .before .before .before .reply-to .result .answer .wrote in
+    let at = c .before .before .before .before .before .before .before .before .reply-to .result .placing .answer .wrote in
     let out = c .before .before .before .before .before .before .before .before .reply-to .last .1 .1 .0 in
     subst (λ (s : List ℕ). FedAs first s (drop at out) (c .feed-lines .last .1 .1 .0) (c .feed-lines .result)) (part-is chunk from)
     (subst (λ (o : List ℕ). FedAs first (take (length chunk - from) (drop from chunk)) o (c .feed-lines .last .1 .1 .0) (c .feed-lines .result)) (part-is out at) (c .feed-lines .ensures))
 
 all-fed : (c : tie.After-feed-lines)
     → FedAs (c .before .before .before .before .before .before .before .before .before .before .before .before .before .before .before .before .before .before .before .before .args .state) (c .before .before .before .before .before .before .before .before .before .before .before .before .before .before .before .before .before .before .before .before .args .chunk .now) (c .before .before .before .before .before .before .before .before .before .before .before .before .before .before .before .before .before .before .before .before .args .out .now)
-    (putMid (c .before .before .before .before .before .before .before .before .reply-to .result .answer .wrote) (length (c .before .before .before .before .before .before .before .before .reply-to .last .1 .1 .0) - c .before .before .before .before .before .before .before .before .reply-to .result .answer .wrote) (c .before .before .before .before .before .before .before .before .reply-to .last .1 .1 .0) (c .feed-lines .last .1 .1 .0))
+    (putMid (c .before .before .before .before .before .before .before .before .reply-to .result .placing .answer .wrote) (length (c .before .before .before .before .before .before .before .before .reply-to .last .1 .1 .0) - c .before .before .before .before .before .before .before .before .reply-to .result .placing .answer .wrote) (c .before .before .before .before .before .before .before .before .reply-to .last .1 .1 .0) (c .feed-lines .last .1 .1 .0))
     (record {
       state = c .feed-lines .result .state;
       used = c .before .before .before .before .before .before .before .before .before .before .before .before .before .before .before .before .line-end .result + 1 + c .feed-lines .result .used;
-      wrote = c .before .before .before .before .before .before .before .before .reply-to .result .answer .wrote + c .feed-lines .result .wrote;
+      wrote = c .before .before .before .before .before .before .before .before .reply-to .result .placing .answer .wrote + c .feed-lines .result .wrote;
+      code = c .feed-lines .result .code;
     })
 all-fed c =
-    let at = c .before .before .before .before .before .before .before .before .reply-to .result .answer .wrote in
+    let at = c .before .before .before .before .before .before .before .before .reply-to .result .placing .answer .wrote in
     let out = c .before .before .before .before .before .before .before .before .reply-to .last .1 .1 .0 in
     let part = c .feed-lines .last .1 .1 .0 in
     held-rest (c .before .before .before .before .before .before .before .before .before .before .before .before .before .before .before .before .before .before .before .before .args .state) (c .before .before .before .before .before .before .before .before .before .before .before .before .before .before .before .before .before .before .before .before .args .chunk .now) (c .before .before .before .before .before .before .before .before .before .before .before .before .before .before .before .before .before .before .before .before .args .out .now) (c .before .before .before .before .before .before .before .before .before .before .before .before .before .before .before .before .line-end .result) (c .before .before .before .before .before .before .before .before .before .before .before .before .before .append .last .0) (c .before .before .before .before .before .before .before .before .before .before .before .before .before .append .result) (scanned (c .before .before .before .before .before .before .before .before .before .before .before .before .before .before .before .before)) (line-known (c .before .before .before .before .before .before .before .before .before .before .before .before .before)) (more (c .before .before .before .before .before .before .before .before .before .before .before))
     out (putMid at (length out - at) out part) part (c .before .before .before .before .before .before .before .before .before .before .before .before .before .append .last .0) (c .before .before .before .before .before .before .before .before .reply-to .result) (c .feed-lines .result) (written (c .before .before .before)) (rest c) (put-last at out part (at-within (c .before .before .before)))
 
-add-t17 : tie.Need-add-t17
-add-t17 c = omega (arith, all-fed (c .before .before .before .before) .within, c .before .before .before .before .before .before .before .before .before .before .before .before .before .before .before .before .before .before .before .before .before .before .before .before)
+add-used : tie.Need-add-used
+add-used c = omega (arith, all-fed (c .before .before .before .before) .within, c .before .before .before .before .before .before .before .before .before .before .before .before .before .before .before .before .before .before .before .before .before .before .before .before)
 
-add-t36 : tie.Need-add-t36
-add-t36 c = omega (arith, all-fed (c .before .before .before .before .before) .wrote, all-fed (c .before .before .before .before .before) .fits, c .before .before .before .before .before .before .before .before .before .before .before .before .before .before .before .before .before .before .before .before .before .before .before .before .before)
+add-wrote : tie.Need-add-wrote
+add-wrote c = omega (arith, all-fed (c .before .before .before .before .before) .wrote, all-fed (c .before .before .before .before .before) .fits, c .before .before .before .before .before .before .before .before .before .before .before .before .before .before .before .before .before .before .before .before .before .before .before .before .before)
 
 same-length-2 : tie.Need-same-length-2
 same-length-2 c = fed-long (all-fed (c .before .before .before .before .before))
@@ -189,7 +192,7 @@ feed-held-spec =
     part-feed-lines-start-2
     part-feed-lines-end-2
     feed-lines-requires
-    add-t17
-    add-t36
+    add-used
+    add-wrote
     same-length-2
     returns-3)

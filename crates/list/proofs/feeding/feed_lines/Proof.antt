@@ -1,7 +1,9 @@
+-- `list::feeding::feed_lines` meets its contract: after each turn one line more is answered, until the chunk is used or an answer has no room.
 use Rattle.list.proofs.Feeds.{fed-from}
 use Rattle.list.proofs.Feeds.{Written}
 use borrow.Rule.Slice.PartMut.{putMid}
 use Rattle.lines.proofs.Lines.{ends-after-some}
+use Rattle.lines.proofs.Appending.{appended-held}
 use Rattle.list.proofs.Feeds.{part-is, put-last, fed-long}
 use Rattle.list.specs.Replies.{RepliedAs}
 use borrow.Author.Needs.{needs}
@@ -82,13 +84,13 @@ append-requires c κs = search needs
 -- the line that is begun is held
 begun-held : (c : tie.After-held3 Inv-loop μ-loop)
     → FedAs (first (c .before .before .before .before .before .before .before .before .before .before .before .before)) (c .before .before .before .before .before .before .before .before .before .before .before .before .args .chunk .now) (c .before .before .before .before .before .before .before .before .before .before .before .before .args .out .now) (c .before .before .before .before .before .before .before .before .loop .out)
-    (record { state = record { held = c .before .append .last .0; count = c .before .append .result; stage = c .before .before .before .before .before .before .before .before .loop .stage }; used = c .before .before .before .before .before .before .before .before .loop .from + c .before .before .before .before .before .line-end .result; wrote = c .before .before .before .before .before .before .before .before .loop .at })
+    (record { state = record { held = c .before .append .last .0; count = c .before .append .result; stage = c .before .before .before .before .before .before .before .before .loop .stage }; used = c .before .before .before .before .before .before .before .before .loop .from + c .before .before .before .before .before .line-end .result; wrote = c .before .before .before .before .before .before .before .before .loop .at; code = 0 })
 begun-held c =
     let chunk = c .before .before .before .before .before .before .before .before .before .before .before .before .args .chunk .now in
     let from = c .before .before .before .before .before .before .before .before .loop .from in
     let i = c .before .before .before .before .before .line-end .result in
     let all : take i (drop from chunk) ≡ drop from chunk = take-all i (drop from chunk) (rw (length-drop from chunk) (omega (arith, c .before .before .before .before .if1 .taken))) in
-    fed-begun (c .before .before .before .before .before .before .before .before .loop .inv .0) (scanned (c .before .before .before .before .before)) (c .before .append .last .0) (c .before .append .result) (c .before .append .ensures .1 ∙ ap capped (part-is chunk from ∙ sym all)) (c .before .before .before .before .if1 .taken)
+    fed-begun (c .before .before .before .before .before .before .before .before .loop .inv .0) (scanned (c .before .before .before .before .before)) (c .before .append .last .0) (c .before .append .result) (appended-held (c .before .append .ensures) ∙ ap capped (part-is chunk from ∙ sym all)) (c .before .before .before .before .if1 .taken)
 
 same-length : tie.Need-same-length Inv-loop μ-loop
 same-length c = fed-long (begun-held c)
@@ -170,7 +172,7 @@ written c =
 -- the line whose answer has no room is held
 full-held : (c : tie.After-held5 Inv-loop μ-loop)
     → FedAs (first (c .before .before .before .before .before .before .before .before .before .before .before .before .before .before .before .before .before .before .before .before)) (c .before .before .before .before .before .before .before .before .before .before .before .before .before .before .before .before .before .before .before .before .args .chunk .now) (c .before .before .before .before .before .before .before .before .before .before .before .before .before .before .before .before .before .before .before .before .args .out .now) (putMid (c .before .before .before .before .before .before .before .before .before .before .before .before .before .before .before .before .loop .at) (length (c .before .before .before .before .before .before .before .before .before .before .before .before .before .before .before .before .loop .out) - c .before .before .before .before .before .before .before .before .before .before .before .before .before .before .before .before .loop .at) (c .before .before .before .before .before .before .before .before .before .before .before .before .before .before .before .before .loop .out) (c .before .before .before .before .before .before .before .before .before .reply-to .last .1 .1 .0))
-    (record { state = record { held = c .before .append2 .last .0; count = c .before .append2 .result; stage = c .before .before .before .before .before .before .before .before .before .before .before .before .before .before .before .before .loop .stage }; used = c .before .before .before .before .before .before .before .before .before .before .before .before .before .before .before .before .loop .from + c .before .before .before .before .before .before .before .before .before .before .before .before .before .line-end .result; wrote = c .before .before .before .before .before .before .before .before .before .before .before .before .before .before .before .before .loop .at })
+    (record { state = record { held = c .before .append2 .last .0; count = c .before .append2 .result; stage = c .before .before .before .before .before .before .before .before .before .before .before .before .before .before .before .before .loop .stage }; used = c .before .before .before .before .before .before .before .before .before .before .before .before .before .before .before .before .loop .from + c .before .before .before .before .before .before .before .before .before .before .before .before .before .line-end .result; wrote = c .before .before .before .before .before .before .before .before .before .before .before .before .before .before .before .before .loop .at; code = c .before .before .before .before .before .before .before .before .before .reply-to .result .placing .answer .code })
 full-held c =
     let chunk = c .before .before .before .before .before .before .before .before .before .before .before .before .before .before .before .before .before .before .before .before .args .chunk .now in
     let from = c .before .before .before .before .before .before .before .before .before .before .before .before .before .before .before .before .loop .from in
@@ -178,8 +180,8 @@ full-held c =
     let count : from + i - from ≡ i = omega arith in
     let part = c .before .before .before .before .before .before .before .before .before .reply-to .last .1 .1 .0 in
     fed-full (c .before .before .before .before .before .before .before .before .before .before .before .before .before .before .before .before .loop .inv .0) (scanned (c .before .before .before .before .before .before .before .before .before .before .before .before .before)) (more (c .before .before .before .before .before .before .before .before .before .before .before .before)) (c .before .append2 .last .0) (c .before .append2 .result)
-    (putMid (c .before .before .before .before .before .before .before .before .before .before .before .before .before .before .before .before .loop .at) (length (c .before .before .before .before .before .before .before .before .before .before .before .before .before .before .before .before .loop .out) - c .before .before .before .before .before .before .before .before .before .before .before .before .before .before .before .before .loop .at) (c .before .before .before .before .before .before .before .before .before .before .before .before .before .before .before .before .loop .out) part) part
-    (c .before .append2 .ensures .1 ∙ ap (λ (n : ℕ). capped (take n (drop from chunk))) count)
+    (putMid (c .before .before .before .before .before .before .before .before .before .before .before .before .before .before .before .before .loop .at) (length (c .before .before .before .before .before .before .before .before .before .before .before .before .before .before .before .before .loop .out) - c .before .before .before .before .before .before .before .before .before .before .before .before .before .before .before .before .loop .at) (c .before .before .before .before .before .before .before .before .before .before .before .before .before .before .before .before .loop .out) part) part (c .before .before .before .before .before .before .before .before .before .reply-to .result)
+    (appended-held (c .before .append2 .ensures) ∙ ap (λ (n : ℕ). capped (take n (drop from chunk))) count)
     (replied-short (c .before .before .before .before .before .before .before .before .before .before .before .before .before .before .before .before .loop .stage) (take (i - 1) (drop from chunk)) (drop (c .before .before .before .before .before .before .before .before .before .before .before .before .before .before .before .before .loop .at) (c .before .before .before .before .before .before .before .before .before .before .before .before .before .before .before .before .loop .out)) part (c .before .before .before .before .before .before .before .before .before .reply-to .result) (reply (c .before .before .before .before .before .before .before .before .before)) (c .before .before .before .before .if2 .taken))
     (put-last (c .before .before .before .before .before .before .before .before .before .before .before .before .before .before .before .before .loop .at) (c .before .before .before .before .before .before .before .before .before .before .before .before .before .before .before .before .loop .out) part (at-within (c .before .before .before .before .before .before .before .before .before)))
 

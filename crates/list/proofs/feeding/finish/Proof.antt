@@ -1,3 +1,4 @@
+-- `list::feeding::finish` meets its contract: the partial line is the last line, or there is none.
 use Rattle.list.proofs.Feeds.{held-is, due-last}
 use Rattle.lines.specs.Held.{mostHeld}
 use Rattle.list.specs.Feeding.{lineOf, EndedWith}
@@ -50,14 +51,14 @@ same-length-2 c = search needs
 
 returns-2 : tie.Need-returns-2
 returns-2 c =
-    let st = c .before .before .before .before .before .before .before .before .before .before .args .state in
-    let known = held-known (c .before .before .before .before .before .before .before .before) in
+    let st = c .before .before .before .before .before .before .before .before .before .before .before .args .state in
+    let known = held-known (c .before .before .before .before .before .before .before .before .before) in
     let long : length (st .held) ≡ mostHeld = search needs in
-    let n = c .before .before .before .before .before .before .before .before .held-count .result in
-    let r = c .before .before .before .reply-to .ensures in
-    let some : 1 ≤ length (take n (st .held)) = rw (length-take-le n (st .held) (omega (arith, known .0))) (omega (arith, c .before .before .before .before .before .before .before .if1 .left)) in
-    subst (λ (l : List ℕ). EndedWith (st .stage) l (c .before .before .before .before .before .before .before .before .before .before .args .out .now) (c .before .before .before .reply-to .last .1 .1 .0) (c .before .before .before .reply-to .result .answer)) (sym (known .1))
-    (r .0, r .1, due-last (st .stage) (take n (st .held)) (r .0) (r .1) some (r .2), r .3)
+    let n = c .before .before .before .before .before .before .before .before .before .held-count .result in
+    let r = c .before .before .before .before .reply-to .ensures in
+    let some : 1 ≤ length (take n (st .held)) = rw (length-take-le n (st .held) (omega (arith, known .0))) (omega (arith, c .before .before .before .before .before .before .before .before .if1 .left)) in
+    subst (λ (l : List ℕ). EndedWith (st .stage) l (c .before .before .before .before .before .before .before .before .before .before .before .args .out .now) (c .before .before .before .before .reply-to .last .1 .1 .0) (c .before .before .before .before .reply-to .result .placing .answer)) (sym (known .1))
+    (r .0, r .1, due-last (st .stage) (take n (st .held)) (r .0) (r .1) some (r .2), r .3 .0)
 
 pub finish-spec : {M : Type 1} → statement M
 finish-spec =

@@ -1,4 +1,7 @@
+-- `list::feeding::header_reply` meets its contract, for the right header and a wrong one.
 use Rattle.list.specs.Lists.{same, inputHeader, outputHeader, wrongHeader}
+use Rattle.quantity.specs.Refusals.{numberOf}
+use Rattle.quantity.specs.declared.refusal.Refusal.the-variants.{IllFormed}
 use mathlib.Core.Bool.{true, false}
 use mathlib.Core.Path.{_≡_, refl, sym, _∙_}
 use borrow.Author.Needs.{needs}
@@ -31,7 +34,7 @@ same-length-2 c = search needs
 returns-2 : tie.Need-returns-2
 returns-2 c =
     let test : same (c .before .before .before .before .before .before .before .before .args .line .now) inputHeader ≡ false = sym (c .before .before .before .before .before .is-header .ensures) ∙ c .before .before .before .before .if1 .left in
-    (10, wrongHeader, rw test (refl, refl), c .before .before .wrong-header .ensures, rw test)
+    (numberOf IllFormed, wrongHeader, rw test (refl, refl), c .before .before .wrong-header .ensures, rw test)
 
 pub header-reply-spec : {M : Type 1} → statement M
 header-reply-spec =

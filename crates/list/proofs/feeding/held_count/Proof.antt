@@ -1,3 +1,4 @@
+-- `list::feeding::held_count` meets its contract.
 use Rattle.lines.specs.Held.{mostHeld}
 use borrow.Author.Tests.{le-leb, lt-leb}
 use Rattle.list.proofs.feeding.held_count.Statement.{statement}

@@ -1,7 +1,10 @@
+-- `list::feeding::nothing_begun` meets its contract at each stage.
 use Rattle.list.specs.Feeding.{EndedWith}
 use Rattle.list.specs.Lists.{wrongHeader}
 use Rattle.list.specs.declared.state.Stage.{Stage}
 use Rattle.line.proofs.Placing.{placed}
+use Rattle.quantity.specs.Refusals.{numberOf}
+use Rattle.quantity.specs.declared.refusal.Refusal.the-variants.{IllFormed}
 use Prim.Native.Nat.{zero-le}
 use mathlib.Core.List.{[]}
 use mathlib.Core.Path.{refl, sym, subst}
@@ -26,18 +29,18 @@ same-length c = search needs
 
 returns : tie.Need-returns
 returns c =
-    subst (λ (g : Stage). EndedWith g [] (c .before .before .before .before .before .before .before .args .out .now) (c .before .before .wrong-header .last .0) (c .before .before .wrong-header .result)) (sym (c .before .before .before .before .enum-told .given .1))
-    (10, wrongHeader, (refl, refl), c .before .before .wrong-header .ensures)
+    subst (λ (g : Stage). EndedWith g [] (c .before .before .before .before .before .before .before .before .args .out .now) (c .before .before .before .wrong-header .last .0) (c .before .before .before .wrong-header .result .answer)) (sym (c .before .before .before .before .before .enum-told .given .1))
+    (numberOf IllFormed, wrongHeader, (refl, refl), c .before .before .before .wrong-header .ensures .0)
 
 returns-2 : tie.Need-returns-2
 returns-2 c =
     subst (λ (g : Stage). EndedWith g [] (c .before .before .before .args .out .now) (c .before .before .before .args .out .now) (record { code = 0; wrote = 0 })) (sym (c .enum-told2 .given .1))
-    (0, [], (refl, refl), placed 0 [] (c .before .before .before .args .out .now) (c .before .before .before .args .out .now) 0 refl zero-le refl)
+    (0, [], (refl, refl), placed 0 [] (c .before .before .before .args .out .now) (c .before .before .before .args .out .now) 0 refl zero-le refl .0)
 
 returns-3 : tie.Need-returns-3
 returns-3 c =
     subst (λ (g : Stage). EndedWith g [] (c .before .before .before .args .out .now) (c .before .before .before .args .out .now) (record { code = 0; wrote = 0 })) (sym (c .enum-told3 .given .1))
-    (0, [], (refl, refl), placed 0 [] (c .before .before .before .args .out .now) (c .before .before .before .args .out .now) 0 refl zero-le refl)
+    (0, [], (refl, refl), placed 0 [] (c .before .before .before .args .out .now) (c .before .before .before .args .out .now) 0 refl zero-le refl .0)
 
 pub nothing-begun-spec : {M : Type 1} → statement M
 nothing-begun-spec =

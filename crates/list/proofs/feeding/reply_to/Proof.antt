@@ -1,8 +1,10 @@
+-- `list::feeding::reply_to` meets its contract at each stage.
 use Rattle.list.specs.declared.state.Stage.the-variants.{Rows, Stopped}
 use Rattle.list.specs.Replies.{RepliedAs}
 use Rattle.list.specs.declared.state.Stage.{Stage}
 use Rattle.line.proofs.Placing.{placed}
 use Prim.Native.Nat.{zero-le}
+use mathlib.Core.Bool.{true}
 use mathlib.Core.List.{[]}
 use mathlib.Core.Path.{refl, sym, subst}
 use borrow.Author.Needs.{needs}
@@ -18,8 +20,8 @@ header-reply-requires c κs = search needs
 enum-told-2 : tie.Need-enum-told-2
 enum-told-2 c = search needs
 
-answer-requires : tie.Need-answer-requires
-answer-requires c κs = search needs
+place-answer-requires : tie.Need-place-answer-requires
+place-answer-requires c κs = search needs
 
 enum-told-3 : tie.Need-enum-told-3
 enum-told-3 c = search needs
@@ -35,13 +37,13 @@ same-length-2 c = search needs
 
 returns-2 : tie.Need-returns-2
 returns-2 c =
-    let a = c .before .before .answer .ensures in
-    subst (λ (g : Stage). RepliedAs g (c .before .before .before .before .before .before .before .before .args .line .now) (c .before .before .before .before .before .before .before .before .args .out .now) (c .before .before .answer .last .1 .0) (record { answer = c .before .before .answer .result; stage = Rows })) (sym (c .before .before .before .before .enum-told2 .given .1))
+    let a = c .before .before .place-answer .ensures in
+    subst (λ (g : Stage). RepliedAs g (c .before .before .before .before .before .before .before .before .args .line .now) (c .before .before .before .before .before .before .before .before .args .out .now) (c .before .before .place-answer .last .1 .0) (record { placing = c .before .before .place-answer .result; stage = Rows })) (sym (c .before .before .before .before .enum-told2 .given .1))
     (a .0, a .1, a .2, a .3, refl)
 
 returns-3 : tie.Need-returns-3
 returns-3 c =
-    subst (λ (g : Stage). RepliedAs g (c .before .before .before .before .args .line .now) (c .before .before .before .before .args .out .now) (c .before .before .before .before .args .out .now) (record { answer = record { code = 0; wrote = 0 }; stage = Stopped })) (sym (c .enum-told3 .given .1))
+    subst (λ (g : Stage). RepliedAs g (c .before .before .before .before .args .line .now) (c .before .before .before .before .args .out .now) (c .before .before .before .before .args .out .now) (record { placing = record { answer = record { code = 0; wrote = 0 }; fitted = true }; stage = Stopped })) (sym (c .enum-told3 .given .1))
     (0, [], (refl, refl), placed 0 [] (c .before .before .before .before .args .out .now) (c .before .before .before .before .args .out .now) 0 refl zero-le refl, refl)
 
 pub reply-to-spec : {M : Type 1} → statement M
@@ -51,7 +53,7 @@ reply-to-spec =
     enum-told
     header-reply-requires
     enum-told-2
-    answer-requires
+    place-answer-requires
     enum-told-3
     same-length
     returns

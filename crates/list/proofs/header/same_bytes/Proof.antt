@@ -1,3 +1,4 @@
+-- `list::header::same_bytes` meets its contract: the bytes passed are the same.
 use Rattle.list.proofs.Same.{same-not, same-on, same-no, same-end}
 use Rattle.list.specs.Lists.{same}
 use lib.ListN.{length, drop}

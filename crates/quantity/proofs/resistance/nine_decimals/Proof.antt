@@ -1,3 +1,4 @@
+-- `quantity::resistance::nine_decimals` meets its contract.
 use borrow.Author.Needs.{needs}
 use mathlib.Core.Path.{_∙_, ap}
 use Prim.Native.Nat.{ℕ, _*_, _/_, _%_, _<_}

@@ -1,3 +1,4 @@
+-- `quantity::resistance::ratio_of` meets its contract.
 use borrow.Author.Needs.{needs}
 use borrow.Author.Tests.{lt-ltb, le-ltb, leb-true, not-true, not-false}
 use mathlib.Core.Path.{_≡_, refl, sym, _∙_}
@@ -59,7 +60,7 @@ returns-4 c =
     let e = c .before .before in
     let s = e .before .before .before .before .args in
     let passes : ratioOf (s .r .0) (s .r0 .0) ≤ largestRatio = omega (arith, c .before .nine-decimals .ensures) in
-    rw (reading (e .before .before), divisor e, c .before .nine-decimals .ensures, le-ltb _ _ passes)
+    rw (reading (e .before .before), divisor e, le-ltb _ _ passes) (refl, c .before .nine-decimals .ensures)
 
 pub ratio-of-spec : {M : Type 1} → statement M
 ratio-of-spec =

@@ -1,3 +1,4 @@
+-- `quantity::resistance::within` meets its contract.
 use borrow.Author.Tests.{le-leb, lt-leb}
 use Rattle.quantity.proofs.resistance.within.Statement.{statement}
 use Rattle.quantity.proofs.resistance.within.Tie as tie

@@ -1,3 +1,4 @@
+-- `row::field::between` meets its contract.
 use borrow.Author.Tests.{le-leb, lt-leb}
 use Rattle.row.proofs.field.between.Statement.{statement}
 use Rattle.row.proofs.field.between.Tie as tie

@@ -1,3 +1,4 @@
+-- `row::field::broken` meets its contract.
 use borrow.Author.Needs.{needs}
 use Rattle.row.proofs.field.broken.Statement.{statement}
 use Rattle.row.proofs.field.broken.Tie as tie

@@ -1,3 +1,4 @@
+-- `row::field::ends_at` meets its contract.
 use lib.ListN.{drop-of-length-le}
 use lib.Seq.{drop-cons}
 use borrow.Author.Needs.{needs}

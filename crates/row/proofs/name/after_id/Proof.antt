@@ -1,3 +1,4 @@
+-- `row::name::after_id` meets its contract.
 use borrow.Author.Tests.{not-true, not-false}
 use native.Mathlib.Omega.{arith}
 use mathlib.Core.Path.{refl, sym, _∙_}

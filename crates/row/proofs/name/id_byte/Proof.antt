@@ -1,3 +1,4 @@
+-- `row::name::id_byte` meets its contract.
 use borrow.Author.Needs.{needs}
 use Rattle.row.proofs.name.id_byte.Statement.{statement}
 use Rattle.row.proofs.name.id_byte.Tie as tie

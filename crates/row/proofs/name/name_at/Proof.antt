@@ -1,7 +1,8 @@
+-- `row::name::name_at` meets its contract.
 use Rattle.row.specs.declared.field.Scanned.{Scanned}
 use Rattle.row.proofs.Offsets.{next-within, scanned-from, scanned-past}
 use Rattle.row.specs.Rows.{isLaw}
-use Rattle.scale.specs.Names.{nameOf}
+use Rattle.law.specs.Names.{nameOf}
 use Prim.Native.Nat.{_-_}
 use native.Mathlib.Omega.{arith}
 use mathlib.Core.Path.{ap, _∙_}

@@ -1,3 +1,4 @@
+-- `row::name::name_ended` meets its contract.
 use mathlib.Core.Path.{sym, _∙_}
 use borrow.Author.Needs.{needs}
 use Rattle.row.proofs.name.name_ended.Statement.{statement}

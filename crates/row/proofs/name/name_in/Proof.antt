@@ -1,9 +1,10 @@
+-- `row::name::name_in` meets its contract.
 use Rattle.row.proofs.Fields.{name-stopped}
 use Rattle.row.proofs.Digits.{name-more, small-bounds, pow-more}
 use Rattle.row.proofs.Spans.{Span, span-start, span-more, stopped, overrun}
 use Rattle.row.specs.Rows.{longestLaw}
 use Rattle.row.specs.Fields.{small}
-use Rattle.scale.specs.Names.{nameOf}
+use Rattle.law.specs.Names.{nameOf}
 use lib.ListN.{length, getD, take}
 use Prim.Native.Nat.{_+_, _-_, _*_, _^_, _≤_, _<_}
 use lib.Dec.{lit<}

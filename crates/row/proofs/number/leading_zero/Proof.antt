@@ -1,3 +1,4 @@
+-- `row::number::leading_zero` meets its contract.
 use Rattle.row.proofs.Fields.{no-leading, leading}
 use borrow.Author.Needs.{needs}
 use Rattle.row.proofs.number.leading_zero.Statement.{statement}

@@ -1,3 +1,4 @@
+-- `row::number::negative_in` meets its contract.
 use lib.ListN.{length-drop}
 use Rattle.row.proofs.Offsets.{next-most, number-most, part-is, negative-none, negative-some}
 use Rattle.row.specs.Scanned.{scannedIn}

@@ -1,3 +1,4 @@
+-- `row::number::no_signed` meets its contract.
 use borrow.Author.Needs.{needs}
 use Rattle.row.proofs.number.no_signed.Statement.{statement}
 use Rattle.row.proofs.number.no_signed.Tie as tie

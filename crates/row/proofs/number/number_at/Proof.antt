@@ -1,3 +1,4 @@
+-- `row::number::number_at` meets its contract.
 use Rattle.row.specs.declared.field.Scanned.{Scanned}
 use Rattle.row.proofs.Offsets.{next-within, scanned-from, scanned-past}
 use Rattle.row.specs.Numbers.{isNumber, valueOf}

@@ -1,3 +1,4 @@
+-- `row::number::number_in` meets its contract.
 use Rattle.row.proofs.Fields.{number-stopped}
 use Rattle.row.proofs.Digits.{number-more, digit-bounds, pow-more}
 use Rattle.row.proofs.Spans.{Span, span-start, span-more, stopped, overrun}

@@ -1,3 +1,4 @@
+-- `row::number::signed_at` meets its contract.
 use Rattle.row.specs.declared.number.Signed.{Signed}
 use Rattle.row.proofs.Offsets.{next-within, signed-from, signed-past}
 use mir.Facts.{toZ-ofZ}

@@ -1,3 +1,4 @@
+-- `row::number::signed_in` meets its contract.
 use Rattle.row.proofs.Offsets.{number-most, signed-empty, plain}
 use Rattle.row.specs.declared.field.Scanned.{Scanned}
 use Rattle.whole.proofs.Machine.{back}

@@ -1,3 +1,4 @@
+-- `row::row::parse` meets its contract.
 use Rattle.row.proofs.Scan.{Parts, ill-formed, row-is}
 use Rattle.row.specs.Rows.{longestLine}
 use mir.Facts.{toZ-ofZ}

@@ -1,3 +1,4 @@
+-- `tables::iec::step_of` meets its contract.
 use native.Mathlib.Omega.{arith}
 use Prim.Native.Nat.{_*_}
 use lib.IntN.{pos}

@@ -1,3 +1,4 @@
+-- `tables::iec::step_off` meets its contract.
 use native.Mathlib.Omega.{arith}
 use lib.IntN.{pos}
 use mir.Facts.{toZ-ofZ}

@@ -1,3 +1,4 @@
+-- `tables::iec::tolerances` meets its contract.
 use borrow.Author.Needs.{needs}
 use Prim.Native.Nat.{_≤_, _-_}
 use Rattle.tables.proofs.iec.tolerances.Statement.{statement}

@@ -1,3 +1,4 @@
+-- `tables::its90::kelvin_of` meets its contract.
 use borrow.Author.Needs.{needs}
 use lib.IntN.{pos}
 use Rattle.whole.proofs.Parts.{ints, add-parts}

@@ -1,3 +1,4 @@
+-- `tables::its90::mercury_kelvin` meets its contract.
 use borrow.Author.Needs.{needs}
 use Rattle.whole.proofs.Parts.{ints}
 use Rattle.tables.proofs.its90.mercury_kelvin.Statement.{statement}

@@ -1,3 +1,4 @@
+-- `tables::its90::working_value` meets its contract.
 use borrow.Author.Needs.{needs}
 use lib.IntN.{pos}
 use Rattle.whole.proofs.Parts.{ints}

@@ -1,8 +1,9 @@
+-- `certificate::record::Record::cell_missing` meets its contract.
 use borrow.Author.Needs.{needs}
 use mathlib.Core.Bool.{Bool, not}
 use mathlib.Core.List.{[], _∷_}
 use Rattle.whole.proofs.Any.{from-left}
-use Rattle.scale.specs.declared.cell.Cell.{Cell}
+use Rattle.law.specs.declared.cell.Cell.{Cell}
 use Rattle.certificate.specs.Record.{measured, cellMissing}
 use Rattle.certificate.proofs.record.Record.cell_missing.Statement.{statement}
 use Rattle.certificate.proofs.record.Record.cell_missing.Tie as tie
@@ -66,15 +67,17 @@ returns-2 c =
 returns-3 : tie.Need-returns-3
 unfolding cellMissing
 returns-3 c =
-    let needed = c .before .before .before .before .needed3 .given in
-    let missing : Cell → Bool = λ (p : Cell). not (measured (c .before .before .before .before .before .before .args .self) p) in
+    let known = c .before .before .before .before in
+    let needed = known .needed3 .given in
+    let missing : Cell → Bool = λ (p : Cell). not (measured (known .before .before .args .self) p) in
     rw (needed .1, c .before .before .measured4 .ensures, c .before .measured5 .ensures, c .measured6 .ensures) (from-left (missing (needed .0 .0)) (missing (needed .0 .1 .0) ∷ missing (needed .0 .1 .1 .0) ∷ []))
 
 returns-4 : tie.Need-returns-4
 unfolding cellMissing
 returns-4 c =
-    let needed = c .before .before .before .before .before .needed4 .given in
-    let missing : Cell → Bool = λ (p : Cell). not (measured (c .before .before .before .before .before .before .before .args .self) p) in
+    let known = c .before .before .before .before .before in
+    let needed = known .needed4 .given in
+    let missing : Cell → Bool = λ (p : Cell). not (measured (known .before .before .args .self) p) in
     rw (needed .1, c .before .before .before .measured7 .ensures, c .before .before .measured8 .ensures, c .before .measured9 .ensures, c .measured10 .ensures) (from-left (missing (needed .0 .0)) (missing (needed .0 .1 .0) ∷ missing (needed .0 .1 .1 .0) ∷ missing (needed .0 .1 .1 .1 .0) ∷ []))
 
 pub cell-missing-spec : {M : Type 1} → statement M

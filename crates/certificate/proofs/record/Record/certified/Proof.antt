@@ -1,10 +1,11 @@
+-- `certificate::record::Record::certified` meets its contract.
 use borrow.Author.Needs.{needs}
-use mathlib.Core.Path.{_≡_, sym, _∙_}
+use mathlib.Core.Path.{_≡_, refl, sym, _∙_}
 use mathlib.Core.Bool.{true, false}
 use native.Mathlib.Omega.{arith}
 use mir.Facts.{toZ-ofZ}
 use Rattle.whole.proofs.Size.{abs→fits}
-use Rattle.scale.specs.Subranges.{cells}
+use Rattle.law.specs.Subranges.{cells}
 use Rattle.fit.specs.Fit.{beyond}
 use Rattle.certificate.specs.Record.{fitted}
 use Rattle.fit.specs.Room.{StandFor}
@@ -34,7 +35,7 @@ returns c =
     let s = f .before .before in
     let k = stands f in
     let far : beyond (fitted (s .args .self) (cells (s .args .subrange))) ≡ true = sym (k .verdict) ∙ sym (b .beyond .ensures) ∙ c .if1 .taken in
-    rw (s .pre .0, s .pre .1, s .pre .2, s .pre .3, s .pre .4, far)
+    rw (s .pre .0, s .pre .1, s .pre .2, s .pre .3, s .pre .4, far) refl
 
 aluminium-ratio-requires : tie.Need-aluminium-ratio-requires
 aluminium-ratio-requires c κs = search needs
@@ -51,6 +52,7 @@ returns-2 c =
     let w = all-within (f .fitted .result) kept in
     let near : beyond (fitted (s .args .self) (cells (s .args .subrange))) ≡ false = sym (stands f .verdict) ∙ kept in
     rw (toZ-ofZ (abs→fits (f .fitted .result .a) (omega (arith, w .a))), toZ-ofZ (abs→fits (f .fitted .result .b) (omega (arith, w .b))), toZ-ofZ (abs→fits (f .fitted .result .c) (omega (arith, w .c))), toZ-ofZ (abs→fits (f .fitted .result .d) (omega (arith, w .d))), a .aluminium-ratio .ensures, s .pre .0, s .pre .1, s .pre .2, s .pre .3, s .pre .4, near, same)
+    (refl, refl)
 
 pub certified-spec : {M : Type 1} → statement M
 certified-spec =

@@ -1,9 +1,12 @@
+-- `certificate::record::Record::certify` meets its contract.
 use borrow.Author.Needs.{needs}
-use mathlib.Core.Path.{_≡_, _∙_, ap}
-use mathlib.Core.Option.{Option, none, some}
-use Rattle.scale.specs.declared.subrange.Subrange.{Subrange}
-use Rattle.scale.specs.Subranges.{subrangeNamed}
-use Rattle.certificate.specs.Record.{recordFor}
+use mathlib.Core.Path.{refl}
+use mathlib.Core.Option.{none, some}
+use Rattle.law.specs.Subranges.{subrangeNamed}
+use Rattle.quantity.specs.Outcomes.{refused}
+use Rattle.quantity.proofs.Outcomes.{by-name}
+use Rattle.certificate.specs.Certificate.{noPlaces, stated}
+use Rattle.certificate.specs.Record.{recordOf}
 use Rattle.certificate.proofs.record.Record.certify.Statement.{statement}
 use Rattle.certificate.proofs.record.Record.certify.Tie as tie
 
@@ -23,17 +26,14 @@ returns : tie.Need-returns
 returns c =
     let n = c .before .before in
     let ratios = n .before .args .self in
-    let e : none ≡ subrangeNamed (ratios .subrange .0) = rw (c .enum-told .given .1) at (n .named .ensures) in
-    ap (λ (s : Option Subrange). recordFor s ratios) e
+    by-name noPlaces (λ s. recordOf s ratios) none (subrangeNamed (ratios .subrange .0)) (rw (c .enum-told .given .1) at (n .named .ensures)) (refused noPlaces 3) refl
 
 returns-2 : tie.Need-returns-2
 returns-2 c =
-    let k = c .before in
-    let u = k .before in
+    let u = c .before .before in
     let n = u .before .before in
     let ratios = n .before .args .self in
-    let e : some (u .subrange .given .0 .0) ≡ subrangeNamed (ratios .subrange .0) = rw (u .subrange .given .1) at (n .named .ensures) in
-    c .tested .ensures ∙ ap (λ (s : Option Subrange). recordFor s ratios) e
+    by-name noPlaces (λ s. recordOf s ratios) (some (u .subrange .given .0 .0)) (subrangeNamed (ratios .subrange .0)) (rw (u .subrange .given .1) at (n .named .ensures)) (stated (c .tested .result)) (c .tested .ensures)
 
 pub certify-spec : {M : Type 1} → statement M
 certify-spec =

@@ -1,3 +1,4 @@
+-- `certificate::record::Record::fitted` meets its contract.
 use borrow.Author.Needs.{needs}
 use mathlib.Core.Path.{refl}
 use Rattle.certificate.specs.Record.{fitted}
@@ -40,7 +41,8 @@ point-requires-6 c κs = search needs
 
 of-three-requires : tie.Need-of-three-requires
 of-three-requires c κs =
-    rw (c .before .before .point4 .ensures, c .before .point5 .ensures, c .point6 .ensures) (rw (c .before .before .before .before .used3 .given .1) at (c .before .before .before .before .before .before .pre .1))
+    let known = c .before .before .before .before in
+    rw (c .before .before .point4 .ensures, c .before .point5 .ensures, c .point6 .ensures) (rw (known .used3 .given .1) at (known .before .before .pre .1))
 
 enum-known-used-4 : tie.Need-enum-known-used-4
 enum-known-used-4 c = search needs
@@ -59,7 +61,9 @@ point-requires-10 c κs = search needs
 
 of-four-requires : tie.Need-of-four-requires
 of-four-requires c κs =
-    rw (c .before .before .before .point7 .ensures, c .before .before .point8 .ensures, c .before .point9 .ensures, c .point10 .ensures) (rw (c .before .before .before .before .before .used4 .given .1) at (c .before .before .before .before .before .before .before .pre .1))
+    let first = c .before .before .before in
+    let known = first .before .before in
+    rw (first .point7 .ensures, c .before .before .point8 .ensures, c .before .point9 .ensures, c .point10 .ensures) (rw (known .used4 .given .1) at (known .before .before .pre .1))
 
 returns : tie.Need-returns
 unfolding fitted
@@ -78,7 +82,8 @@ returns-3 c =
 returns-4 : tie.Need-returns-4
 unfolding fitted
 returns-4 c =
-    rw (c .before .before .before .before .before .before .used4 .given .1) (rw (c .before .before .before .before .point7 .ensures, c .before .before .before .point8 .ensures, c .before .before .point9 .ensures, c .before .point10 .ensures) at (c .of-four .ensures))
+    let first = c .before .before .before .before in
+    rw (first .before .before .used4 .given .1) (rw (first .point7 .ensures, c .before .before .before .point8 .ensures, c .before .before .point9 .ensures, c .before .point10 .ensures) at (c .of-four .ensures))
 
 pub fitted-spec : {M : Type 1} → statement M
 fitted-spec =

@@ -1,3 +1,4 @@
+-- `certificate::record::Record::measured` meets its contract.
 use borrow.Author.Needs.{needs}
 use Rattle.certificate.proofs.record.Record.measured.Statement.{statement}
 use Rattle.certificate.proofs.record.Record.measured.Tie as tie
@@ -6,7 +7,7 @@ ratio-requires : tie.Need-ratio-requires
 ratio-requires c κs = search needs
 
 returns : tie.Need-returns
-returns c = rw (c .ratio .ensures)
+returns c = rw (c .before .ratio .ensures)
 
 pub measured-spec : {M : Type 1} → statement M
 measured-spec = tie.close (tie.spec ratio-requires returns)

@@ -1,3 +1,4 @@
+-- `certificate::record::Record::purity_cell_missing` meets its contract.
 use borrow.Author.Needs.{needs}
 use Rattle.certificate.specs.Record.{purityCellMissing}
 use Rattle.certificate.proofs.record.Record.purity_cell_missing.Statement.{statement}

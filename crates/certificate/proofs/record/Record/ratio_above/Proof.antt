@@ -1,11 +1,12 @@
+-- `certificate::record::Record::ratio_above` meets its contract.
 use borrow.Author.Needs.{needs}
 use mathlib.Core.Bool.{Bool}
 use mathlib.Core.List.{[], _∷_}
 use lib.Dec.{ltb}
 use Rattle.whole.proofs.Any.{from-left}
 use Rattle.quantity.specs.Quantities.{largestRatio}
-use Rattle.scale.specs.declared.cell.Cell.{Cell}
-use Rattle.scale.specs.declared.cell.Cell.the-variants.{Hg, Ga, In, Sn, Zn, Al, Ag}
+use Rattle.law.specs.declared.cell.Cell.{Cell}
+use Rattle.law.specs.declared.cell.Cell.the-variants.{Hg, Ga, In, Sn, Zn, Al, Ag}
 use Rattle.certificate.specs.Record.{ratio, ratioAbove}
 use Rattle.certificate.proofs.record.Record.ratio_above.Statement.{statement}
 use Rattle.certificate.proofs.record.Record.ratio_above.Tie as tie
@@ -34,8 +35,14 @@ above-requires-7 c κs = search needs
 returns : tie.Need-returns
 unfolding ratioAbove
 returns c =
-    let above : Cell → Bool = λ (p : Cell). ltb largestRatio (ratio (c .before .before .before .before .before .before .before .args .self) p) in
-    rw (c .before .before .before .before .before .before .above .ensures, c .before .before .before .before .before .above2 .ensures, c .before .before .before .before .above3 .ensures, c .before .before .before .above4 .ensures, c .before .before .above5 .ensures, c .before .above6 .ensures, c .above7 .ensures)
+    let al = c .before in
+    let zn = al .before in
+    let sn = zn .before in
+    let in' = sn .before in
+    let ga = in' .before in
+    let hg = ga .before in
+    let above : Cell → Bool = λ (p : Cell). ltb largestRatio (ratio (hg .before .args .self) p) in
+    rw (hg .above .ensures, ga .above2 .ensures, in' .above3 .ensures, sn .above4 .ensures, zn .above5 .ensures, al .above6 .ensures, c .above7 .ensures)
     (from-left (above Hg) (above Ga ∷ above In ∷ above Sn ∷ above Zn ∷ above Al ∷ above Ag ∷ []))
 
 pub ratio-above-spec : {M : Type 1} → statement M

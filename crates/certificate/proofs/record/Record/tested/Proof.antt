@@ -1,7 +1,8 @@
+-- `certificate::record::Record::tested` meets its contract.
 use borrow.Author.Needs.{needs}
 use mathlib.Core.Path.{_≡_, sym, _∙_}
 use mathlib.Core.Bool.{true, false}
-use Rattle.scale.specs.Subranges.{cells}
+use Rattle.law.specs.Subranges.{cells}
 use Rattle.certificate.specs.Record.{ratioAbove, cellMissing, purityCellMissing, impure, deviates}
 use Rattle.certificate.proofs.record.Record.tested.Statement.{statement}
 use Rattle.certificate.proofs.record.Record.tested.Tie as tie
@@ -18,10 +19,10 @@ passed-4 c =
     let m = c .before .before in
     rw (m .before .cells .ensures) at (sym (m .cell-missing .ensures) ∙ c .if2 .left)
 
-passed-5 : (c : tie.Else3) → purityCellMissing (c .before .before .before .before .before .before .before .args .self) ≡ false
+passed-5 : (c : tie.Else3) → let missed = c .before .before in purityCellMissing (missed .before .before .before .before .before .args .self) ≡ false
 passed-5 c = sym (c .before .purity-cell-missing .ensures) ∙ c .if3 .left
 
-passed-6 : (c : tie.Else4) → impure (c .before .before .before .before .before .before .before .before .before .args .subrange) (c .before .before .before .before .before .before .before .before .before .args .self) ≡ false
+passed-6 : (c : tie.Else4) → let missed = c .before .before .before .before in let start = missed .before .before .before .before .before in impure (start .args .subrange) (start .args .self) ≡ false
 passed-6 c = sym (c .before .impure .ensures) ∙ c .if4 .left
 
 cells-requires : tie.Need-cells-requires

@@ -1,3 +1,4 @@
+-- `evidence::generator::Generator::under` meets its contract.
 use borrow.Author.Needs.{needs}
 use native.Mathlib.Nat.{mod-lt}
 use Rattle.evidence.proofs.generator.Generator.under.Statement.{statement}

@@ -1,3 +1,4 @@
+-- `quantity::temperature::Celsius::to_kelvin` meets its contract.
 use borrow.Author.Needs.{needs}
 use mathlib.Core.Path.{_≡_}
 use lib.IntN.{pos, natAbs}

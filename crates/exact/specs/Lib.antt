@@ -1,0 +1,3 @@
+-- The definitions of `exact`.
+pub mod Fraction
+pub mod Polynomial

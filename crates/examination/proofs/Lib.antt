@@ -1,0 +1,3 @@
+-- What is proved of the definitions of `examination`.
+pub mod Readings
+pub mod Unique

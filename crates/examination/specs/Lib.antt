@@ -1,0 +1,3 @@
+-- The definitions of `examination`.
+pub mod Testing
+pub mod Answering

@@ -1,0 +1,44 @@
+-- `reading::from_resistance::read` meets its contract.
+use borrow.Author.Needs.{needs}
+use mathlib.Core.Path.{_≡_, refl}
+use mathlib.Core.Option.{none, some}
+use Rattle.quantity.specs.Outcomes.{refused}
+use Rattle.quantity.proofs.Outcomes.{by-name}
+use Rattle.law.specs.Subranges.{lawNamed}
+use Rattle.law.specs.Answers.{noStep, stated}
+use Rattle.certificate.specs.Certificate.{certificateOf}
+use Rattle.reading.specs.Reading.{readCertificate}
+use Rattle.reading.proofs.from_resistance.read.Statement.{statement}
+use Rattle.reading.proofs.from_resistance.read.Tie as tie
+
+named-requires : tie.Need-named-requires
+named-requires c κs = search needs
+
+enum-told : tie.Need-enum-told
+enum-told c = search needs
+
+enum-known-law : tie.Need-enum-known-law
+enum-known-law c = search needs
+
+read-by-requires : tie.Need-read-by-requires
+read-by-requires c κs = search needs
+
+is-named : (l : tie.After-law) → some (l .law .given .0 .0) ≡ lawNamed (l .before .before .before .args .k .law .0)
+is-named l = rw (l .law .given .1) at (l .before .before .named .ensures)
+
+returns : tie.Need-returns
+returns c =
+    let n = c .before .before in
+    let a = n .before .args in
+    by-name noStep (λ law. readCertificate (certificateOf law (a .k)) (a .r .0) (a .r0 .0)) none (lawNamed (a .k .law .0)) (rw (c .enum-told .given .1) at (n .named .ensures)) (refused noStep 3) refl
+
+returns-2 : tie.Need-returns-2
+returns-2 c =
+    let l = c .before .before .before in
+    let a = l .before .before .before .args in
+    by-name noStep (λ law. readCertificate (certificateOf law (a .k)) (a .r .0) (a .r0 .0)) (some (l .law .given .0 .0)) (lawNamed (a .k .law .0)) (is-named l) (stated (c .read-by .result)) (c .read-by .ensures)
+
+pub read-spec : {M : Type 1} → statement M
+read-spec =
+    tie.close
+    (tie.spec named-requires enum-told enum-known-law read-by-requires returns returns-2)

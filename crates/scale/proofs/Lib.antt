@@ -1,4 +1,0 @@
-pub mod Deviations
-pub mod Names
-pub mod Subranges
-pub mod Unique

@@ -1,2 +1,0 @@
-pub mod Testing
-pub mod Answering
