@@ -17,6 +17,10 @@ class Generator:
         self.state = self.state * 48271 % 2147483647
         return self.state
 
+    def skip(self, count):
+        """As after so many draws."""
+        self.state = self.state * pow(48271, count, 2147483647) % 2147483647
+
     def wide(self):
         a = self.draw()
         b = self.draw()
@@ -35,6 +39,11 @@ def digest(h, line):
     for byte in line:
         h = (h * 16777619 + byte + 1) % 4294967291
     return h
+
+
+def fields(answer):
+    """An outcome as it stands on a line."""
+    return answer if isinstance(answer, tuple) else ("refused", answer)
 
 
 def family(name, seed, size, case):

@@ -5,7 +5,15 @@ A ratio W and x = W - 1 are in units of 10^-9, reference values, deviations and
 coefficients in units of 10^-11.
 """
 
-from quantity import RATIO_MOST, RATIO_ONE, UNITS_ONE, Refused, quotient_down
+from quantity import (
+    RATIO_MOST,
+    RATIO_ONE,
+    UNITS_ONE,
+    Refused,
+    divided,
+    quotient_down,
+    within_limits,
+)
 from reference import units
 
 # As printed in the table, to be compared with it by eye.
@@ -35,12 +43,15 @@ SUBRANGES = {
 # How many of the places a, b, c, d, W(Al) a law uses, counted from a.
 USED_PLACES = {"curve": 0, "ga": 1, "in": 1, "sn": 2, "zn": 2, "al": 3, "ag": 5}
 
+LAWS = tuple(USED_PLACES)
+
 # Purity: W(Ga) and W(Ag) at least, W(Hg) at most.
 GA_LEAST = 1_118_070_000
 HG_MOST = 844_235_000
 AG_LEAST = 4_284_400_000
 
 NOT_MEASURED = 0
+NO_RESISTANCES = (0, 0)  # R and R0 of a cell that was not measured
 
 DEVIATION_PART = 1000  # |W - Wr| is at most this part of |W - 1|
 COEFFICIENT_MOST = UNITS_ONE // 1000  # 0.001
@@ -140,6 +151,27 @@ def certify(name, ratios):
         raise Refused(7)
     wal = record["Al"] if name == "ag" else 0
     return name, *found, wal
+
+
+def ratios_of(resistances):
+    """W by cell of the cells measured, or Refused 1 for a cell outside the limits.
+
+    A W that is rounded down to 0 stands for not measured, as in every record.
+    """
+    pairs = {c: pair for c, pair in resistances.items() if pair != NO_RESISTANCES}
+    if not all(within_limits(*pair) for pair in pairs.values()):
+        raise Refused(1)
+    return {cell: divided(*pair) for cell, pair in pairs.items()}
+
+
+def certify_measured(name, resistances):
+    """The certificate of a record of resistances, R and R0 by cell, or Refused.
+
+    Tested in the order 3, 1 and then as the record of its ratios.
+    """
+    if name not in SUBRANGES:
+        raise Refused(3)
+    return certify(name, ratios_of(resistances))
 
 
 def given(name, a, b, c, d, wal):

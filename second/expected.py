@@ -6,16 +6,13 @@ import sys
 # A test run leaves nothing behind in the folder.
 sys.dont_write_bytecode = True
 
+from functools import partial
 from itertools import zip_longest
 from pathlib import Path
 
 import cards
-import certificate_cases
-import curve_cases
-import ground
 import launchlist_cases
 import reading
-import reading_cases
 import register
 import register_cases
 import register_story
@@ -23,7 +20,8 @@ import tables
 from cases import CheckFailed
 from certificate import WR, certify, given
 from curve import allows, forward, read, tolerance
-from launchlist import answer
+from lists import answer
+from messages import shown
 from quantity import Refused, kelvin, quotient_down, ratio
 from reading import deviation_at
 from reference import BELOW, PAST, PAST_TOP, TOP, inverse, working
@@ -31,30 +29,41 @@ from register import Entry
 
 ROOT = Path(__file__).resolve().parent.parent
 
-EXAMPLE_LIST = "examples/round.csv"
+# The example lists, which are written by hand, and the program that answers each.
+EXAMPLES = {
+    "round": "launchlist",
+    "records": "benchlist",
+    "resistances": "benchlist",
+    "steps": "benchlist",
+    "tolerances": "benchlist",
+}
 
 
-def example_answer():
-    """The answer to the example list, which is written by hand."""
-    file = ROOT / EXAMPLE_LIST
+def example_list(name):
+    file = ROOT / "examples" / f"{name}.csv"
     if not file.is_file():
-        raise CheckFailed(f"{EXAMPLE_LIST} is missing")
-    return answer(file.read_bytes())
+        raise CheckFailed(f"examples/{name}.csv is missing")
+    return file.read_bytes()
+
+
+def example_answer(name):
+    return answer(EXAMPLES[name], example_list(name))
 
 
 # Each file and its maker; a program may have several.
 MAKERS = {
-    "crates/ground/stdout": ground.make,
-    "crates/curve_cases/stdout": curve_cases.make,
-    "crates/certificate_cases/stdout": certificate_cases.make,
-    "crates/reading_cases/stdout": reading_cases.make,
     "crates/cards/stdout": cards.make,
     "crates/tables/stdout": tables.make,
     "crates/register_cases/stdout": register_cases.make,
     "crates/register_story/stdout": register_story.make,
     "crates/launchlist/stdin": launchlist_cases.stdin,
     "crates/launchlist/stdout": launchlist_cases.stdout,
-    "examples/round.answer.csv": example_answer,
+    "crates/benchlist/stdin": partial(example_list, "records"),
+    "crates/benchlist/stdout": partial(example_answer, "records"),
+    **{
+        f"examples/{name}.answer.csv": partial(example_answer, name)
+        for name in EXAMPLES
+    },
 }
 
 USAGE = """\
@@ -146,6 +155,7 @@ def about_top(name):
     shifts = (-6, 5, 500)
     return [outcome(read_ratio, (plain, NO_DEVIATION[cell] + n)) for n in shifts]
 
+
 def past_top_of_ga(short):
     """What a reading by ga gives whose Wr is the working value one step past the
     top less `short` units, made so by the least a that does it."""
@@ -183,6 +193,10 @@ ANSWER_HEAD = crlf("id,law,t,code\n")
 WRONG_HEADER = crlf("id,law,t,code\n?,?,,10\n")
 
 
+def launchlist(data):
+    return answer("launchlist", data)
+
+
 def row(name="F1", law="curve", r="138505500000", a="0", d="0", wal="0"):
     """The document's first line with some of its fields changed."""
     return f"{name},{law},{r},100000000000,{a},0,0,{d},{wal}".encode("latin-1")
@@ -190,7 +204,7 @@ def row(name="F1", law="curve", r="138505500000", a="0", d="0", wal="0"):
 
 def answers(*lines):
     """What is answered to lines after the header, each ended by CRLF."""
-    made = answer(LIST_HEAD + b"".join(line + b"\r\n" for line in lines))
+    made = launchlist(LIST_HEAD + b"".join(line + b"\r\n" for line in lines))
     head, *rest, end = made.split(b"\r\n")
     if head + b"\r\n" != ANSWER_HEAD or end != b"":
         raise CheckFailed(f"list answered {made}")
@@ -199,6 +213,46 @@ def answers(*lines):
 
 IS_100 = "F1,curve,1000000,0"
 ILL = "?,?,,10"
+
+
+# The first lines of the lists of `benchlist`, and of their answers.
+RATIOS = "id,subrange,hg,ga,in,sn,zn,al,ag"
+RESISTANCES = "id,subrange,hg,hg0,ga,ga0,in,in0,sn,sn0,zn,zn0,al,al0,ag,ag0"
+FORWARD = "id,law,t,a,b,c,d,wal"
+TOLERANCE = "id,class,t,r,r0"
+BENCH_ANSWERS = {
+    RATIOS: "id,law,a,b,c,d,wal,code",
+    RESISTANCES: "id,law,a,b,c,d,wal,code",
+    FORWARD: "id,law,w,code",
+    TOLERANCE: "id,class,result,error,code",
+}
+
+
+def benchlist(data):
+    return answer("benchlist", data)
+
+
+def bench(header, line):
+    """What is answered to a line of a list of `benchlist`."""
+    made = benchlist(crlf(f"{header}\n{line}\n")).decode("ascii")
+    head, answered, end = made.split("\r\n")
+    if head != BENCH_ANSWERS[header] or end != "":
+        raise CheckFailed(f"list answered {made}")
+    return answered
+
+
+NO_RECORD = crlf("id,law,a,b,c,d,wal,code\n?,?,,,,,,10\n")
+
+# A sensor without deviation below aluminium, and all of it by 150 ohm.
+FIVE_CELLS = "844142110,1118138890,1609801850,1892797680,2568917300"
+SEVEN_CELLS = (
+    "126621316500,150000000000,167720833500,150000000000,241470277500,150000000000,"
+    "283919652000,150000000000,385337595000,150000000000,506401290000,150000000000,"
+    "642963079500,150000000000"
+)
+
+# The other cells' R and R0 after those of mercury and gallium.
+FIVE_NOT_MEASURED = ",0" * 10
 
 
 def entry(number, serial, mark=0, certificate=ZERO_GA):
@@ -521,18 +575,18 @@ SELF_CHECKS = (
         10**11,
     ),
     ("no class", "refused 3", reading.tolerance, ord("C"), 0, 10**11, 10**11),
-    ("list, the example", ANSWERS, answer, LIST),
-    ("list without its last CRLF", ANSWERS, answer, LIST[:-2]),
-    ("list, empty input", WRONG_HEADER, answer, b""),
-    ("list, header alone", ANSWER_HEAD, answer, LIST_HEAD),
-    ("list, header alone without CRLF", ANSWER_HEAD, answer, LIST_HEAD[:-2]),
-    ("list, header and CR", WRONG_HEADER, answer, LIST_HEAD[:-1]),
-    ("list, empty line first", WRONG_HEADER, answer, b"\r\n" + LIST),
-    ("list, byte order mark", WRONG_HEADER, answer, b"\xef\xbb\xbf" + LIST),
-    ("list, header in upper case", WRONG_HEADER, answer, LIST.upper()),
-    ("list, lines ended by LF", WRONG_HEADER, answer, LIST.replace(b"\r", b"")),
-    ("list, empty line last", ANSWERS + crlf("?,?,,10\n"), answer, LIST + b"\r\n"),
-    ("list, CR last", ANSWERS + crlf("?,?,,10\n"), answer, LIST + b"\r"),
+    ("list, the example", ANSWERS, launchlist, LIST),
+    ("list without its last CRLF", ANSWERS, launchlist, LIST[:-2]),
+    ("list, empty input", WRONG_HEADER, launchlist, b""),
+    ("list, header alone", ANSWER_HEAD, launchlist, LIST_HEAD),
+    ("list, header alone without CRLF", ANSWER_HEAD, launchlist, LIST_HEAD[:-2]),
+    ("list, header and CR", WRONG_HEADER, launchlist, LIST_HEAD[:-1]),
+    ("list, empty line first", WRONG_HEADER, launchlist, b"\r\n" + LIST),
+    ("list, byte order mark", WRONG_HEADER, launchlist, b"\xef\xbb\xbf" + LIST),
+    ("list, header in upper case", WRONG_HEADER, launchlist, LIST.upper()),
+    ("list, lines ended by LF", WRONG_HEADER, launchlist, LIST.replace(b"\r", b"")),
+    ("list, empty line last", ANSWERS + crlf("?,?,,10\n"), launchlist, LIST + b"\r\n"),
+    ("list, CR last", ANSWERS + crlf("?,?,,10\n"), launchlist, LIST + b"\r"),
     ("empty line between", f"{IS_100} {ILL} {IS_100}", answers, row(), b"", row()),
     ("200 bytes, 201 bytes", f"{ILL} {ILL}", answers, b"x" * 200, b"x" * 201),
     ("line after a long one", f"{ILL} {IS_100}", answers, b"x" * 201, row()),
@@ -576,6 +630,130 @@ SELF_CHECKS = (
     ("line, 10 before 3", ILL, answers, row(law="pt", a="-0")),
     ("line, 3 before 7", "F1,pt,,3", answers, row(law="pt", a="1")),
     ("line, 7 before 1", "F1,curve,,7", answers, row(a="1", r="0")),
+    ("bench, empty input", NO_RECORD, benchlist, b""),
+    ("bench, header of launchlist", NO_RECORD, benchlist, LIST),
+    ("launchlist, header of bench", WRONG_HEADER, launchlist, crlf(FORWARD + "\n")),
+    (
+        "card 5 as a line",
+        "R1,ga,-58346744,0,0,0,0,0",
+        *(bench, RATIOS, "R1,ga,0,1118070000,0,0,0,0,0"),
+    ),
+    (
+        "card 5, one unit less",
+        "R1,ga,,,,,,6",
+        *(bench, RATIOS, "R1,ga,0,1118069999,0,0,0,0,0"),
+    ),
+    (
+        "card 6 as a line",
+        "R1,in,-16401460,0,0,0,0,0",
+        *(bench, RATIOS, "R1,in,0,1118138890,1609701850,0,0,0,0"),
+    ),
+    (
+        "ag, aluminium a unit low, as a line",
+        "R1,ag,-51,92,-37,594,3376008599,0",
+        *(bench, RATIOS, f"R1,ag,{FIVE_CELLS},3376008599,4286420530"),
+    ),
+    ("record, unknown", "R1,hg,,,,,,3", bench, RATIOS, "R1,hg,0,4400000001,0,0,0,0,0"),
+    ("record, over 4.4", "R1,ga,,,,,,2", bench, RATIOS, "R1,ga,0,0,0,0,0,0,4400000001"),
+    ("record, no cell", "R1,ag,,,,,,4", bench, RATIOS, "R1,ag,0,0,0,0,0,0,0"),
+    ("record, 5", "R1,in,,,,,,5", bench, RATIOS, "R1,in,0,0,1609801850,0,0,0,0"),
+    ("record, 7", "R1,ga,,,,,,7", bench, RATIOS, "R1,ga,0,1200000000,0,0,0,0,0"),
+    ("record, minus", "?,?,,,,,,10", bench, RATIOS, "R1,ga,0,-1118070000,0,0,0,0,0"),
+    ("record, empty line", "?,?,,,,,,10", bench, RATIOS, ""),
+    (
+        "card 5 by resistances",
+        "R1,ga,-58346744,0,0,0,0,0",
+        *(bench, RESISTANCES, "R1,ga,0,0,27951750000,25000000000" + FIVE_NOT_MEASURED),
+    ),
+    (
+        "24 nanoohm more, not yet a unit",
+        "R1,ga,-58346744,0,0,0,0,0",
+        *(bench, RESISTANCES, "R1,ga,0,0,27951750024,25000000000" + FIVE_NOT_MEASURED),
+    ),
+    (
+        "one nanoohm less",
+        "R1,ga,,,,,,6",
+        *(bench, RESISTANCES, "R1,ga,0,0,27951749999,25000000000" + FIVE_NOT_MEASURED),
+    ),
+    (
+        "R without R0",
+        "R1,ga,,,,,,1",
+        *(bench, RESISTANCES, "R1,ga,1,0,27951750000,25000000000" + FIVE_NOT_MEASURED),
+    ),
+    (
+        "R0 without R",
+        "R1,ga,,,,,,1",
+        *(bench, RESISTANCES, "R1,ga,0,25000000000,0,0" + FIVE_NOT_MEASURED),
+    ),
+    (
+        "3 before 1",
+        "R1,hg,,,,,,3",
+        *(bench, RESISTANCES, "R1,hg,1,0,0,0" + FIVE_NOT_MEASURED),
+    ),
+    (
+        "1 in one cell before 2 in another",
+        "R1,ga,,,,,,1",
+        *(bench, RESISTANCES, "R1,ga,1000000000000,100000000,1,0" + FIVE_NOT_MEASURED),
+    ),
+    (
+        "2",
+        "R1,ga,,,,,,2",
+        *(bench, RESISTANCES, "R1,ga,1000000000000,100000000,0,0" + FIVE_NOT_MEASURED),
+    ),
+    # 1/10^12 is rounded down to 0, which is not measured.
+    (
+        "a ratio of 0",
+        "R1,ga,,,,,,4",
+        *(bench, RESISTANCES, "R1,ga,0,0,1,1000000000000" + FIVE_NOT_MEASURED),
+    ),
+    (
+        "200 bytes",
+        "FIFTEEN-LETTERS,ag,0,0,0,0,3376008600,0",
+        *(bench, RESISTANCES, f"FIFTEEN-LETTERS,ag,{SEVEN_CELLS}"),
+    ),
+    (
+        "201 bytes",
+        "?,?,,,,,,10",
+        *(bench, RESISTANCES, f"SIXTEEN--LETTERS,ag,{SEVEN_CELLS}"),
+    ),
+    (
+        "forward, 0 °C as a line",
+        "X1,curve,1000000000,0",
+        *(bench, FORWARD, "X1,curve,0,0,0,0,0,0"),
+    ),
+    (
+        "forward, 481 °C",
+        "X1,ag,2781572540,0",
+        *(bench, FORWARD, "X1,ag,4810000,0,0,0,0,3376008600"),
+    ),
+    (
+        "forward, -100 °C",
+        "X1,curve,602558400,0",
+        *(bench, FORWARD, "X1,curve,-1000000,0,0,0,0,0"),
+    ),
+    ("forward, 3", "X1,hg,,3", bench, FORWARD, "X1,hg,-1,100000001,0,0,0,0"),
+    ("forward, 7", "X1,ga,,7", bench, FORWARD, "X1,ga,-1,100000001,0,0,0,0"),
+    ("forward, 8", "X1,ga,,8", bench, FORWARD, "X1,ga,-1,100000000,0,0,0,0"),
+    ("forward, 9", "X1,ga,,9", bench, FORWARD, "X1,ga,297647,0,0,0,0,0"),
+    ("forward, -0", "?,?,,10", bench, FORWARD, "X1,ga,-0,0,0,0,0,0"),
+    ("forward, minus before W(Al)", "?,?,,10", bench, FORWARD, "X1,ga,0,0,0,0,0,-1"),
+    (
+        "A passes",
+        "S1,A,pass,1500,0",
+        *(bench, TOLERANCE, "S1,A,0,100058662299,100000000000"),
+    ),
+    (
+        "A fails",
+        "S1,A,fail,-1501,0",
+        *(bench, TOLERANCE, "S1,A,0,99941374299,100000000000"),
+    ),
+    ("class in lower case", "S1,a,,,3", bench, TOLERANCE, "S1,a,8500001,0,0"),
+    ("bath of A", "S1,A,,,9", bench, TOLERANCE, "S1,A,6500001,0,0"),
+    ("bath of B", "S1,B,,,8", bench, TOLERANCE, "S1,B,-2000001,0,0"),
+    ("R0 outside its limits", "S1,B,,,1", bench, TOLERANCE, "S1,B,0,1,1"),
+    ("class, two letters", "?,?,,,10", bench, TOLERANCE, "S1,AB,0,1,1"),
+    ("class, a digit", "?,?,,,10", bench, TOLERANCE, "S1,1,0,1,1"),
+    ("class, none", "?,?,,,10", bench, TOLERANCE, "S1,,0,1,1"),
     ("serial at the mark", "refused 20", read_water, [entry(7, 2, 2)], 7),
     ("serial above it", IS_WATER, read_water, [entry(7, 3, 2)], 7),
     ("serial under it", "refused 20", read_water, [entry(7, 1, 2)], 7),
@@ -728,14 +906,6 @@ def self_check():
         found = outcome(function, arguments)
         if found != due:
             raise CheckFailed(f"{what}: {found}, due {due}")
-
-
-def shown(line):
-    if line is None:
-        return "no such line"
-    # Some lines of a list are very long.
-    text = ascii(line.decode("latin-1"))
-    return text if len(text) <= 400 else f"{text[:400]}.. of {len(line)} bytes"
 
 
 def compare(file, made):

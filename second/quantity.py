@@ -31,13 +31,23 @@ def quotient_down(z, d):
     return z // d
 
 
+def within_limits(r, r0):
+    """Whether a reading R and a divisor R0 are inside their limits."""
+    if not READING_LEAST <= r <= RESISTANCE_MOST:
+        return False
+    return DIVISOR_LEAST <= r0 <= RESISTANCE_MOST
+
+
+def divided(r, r0):
+    """W = R/R0 in units of 10^-9, rounded downward."""
+    return quotient_down(r * RATIO_ONE, r0)
+
+
 def ratio(r, r0):
     """W = R/R0 in units of 10^-9, or Refused 1, then 2."""
-    if not READING_LEAST <= r <= RESISTANCE_MOST:
+    if not within_limits(r, r0):
         raise Refused(1)
-    if not DIVISOR_LEAST <= r0 <= RESISTANCE_MOST:
-        raise Refused(1)
-    w = quotient_down(r * RATIO_ONE, r0)
+    w = divided(r, r0)
     # "Ratio W ... rounded down, at most 4.4": the limit is put to the rounded W.
     if w > RATIO_MOST:
         raise Refused(2)

@@ -4,6 +4,7 @@ Values are in units of 10^-11, temperatures are Celsius counts.
 """
 
 from fractions import Fraction
+from functools import lru_cache
 
 from quantity import UNITS_ONE, kelvin, quotient_down
 
@@ -43,6 +44,8 @@ BELOW = "below"
 PAST = "past"
 
 
+# Bisections come to the same steps again and again.
+@lru_cache(maxsize=65536)
 def working(step):
     """The working value, rounded downward after each of the nine divisions."""
     if not 0 <= step <= PAST_TOP:

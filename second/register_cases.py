@@ -13,10 +13,10 @@ a whole: every certificate that came and every serial withdrawn.
 from collections import Counter
 
 import register
-from cases import CheckFailed, family
-from certificate_cases import LAWS, check_seen, faultless
-from reading_cases import Survey as ReadingSurvey
-from reading_cases import fields, outcome, reading
+from cases import CheckFailed, family, fields
+from certificate import LAWS
+from promises import Survey as ReadingSurvey
+from promises import check_seen, faultless, outcome, reading
 from register import Entry
 
 SEED = 601

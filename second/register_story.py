@@ -7,7 +7,7 @@ the serial, the mark and the law that thermometer 7 has in the end.
 
 import register
 from cases import CheckFailed
-from reading_cases import outcome
+from promises import outcome
 from register import Entry
 
 FREE_PLACE = Entry(0, 0, 0, ("?", 0, 0, 0, 0, 0))

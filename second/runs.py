@@ -1,8 +1,9 @@
-"""Runs a built `launchlist` on whole inputs and compares what it writes with what
-is due.
+"""Runs a built `launchlist` or `benchlist` on whole inputs and compares what it
+writes with what is due.
 
     python3 second/runs.py COMMAND [ARGUMENT ..]
 
+The last word is the program, and its file name says which of the two it is.
 Prints a line for each failure and, last, how many passed and failed. A program
 in Rattle cannot choose its exit status, so that 0 only means it ended by itself.
 """
@@ -23,11 +24,15 @@ from pathlib import Path
 from tempfile import TemporaryFile
 from threading import Event, Timer
 
-from launchlist import LINE_END, answer
-from launchlist_cases import CR, EXAMPLE, runs, stdin
+from damage import CR
+from inputs import example, whole_inputs
+from launchlist_cases import stdin
+from lists import LINE_END, PROGRAMS, answer
+from messages import said, shown
 
 USAGE = """\
 usage: python3 second/runs.py COMMAND [ARGUMENT ..]
+The last word is a built launchlist or benchlist.
 """
 
 LIMIT = 60  # seconds after which a run that has not ended is ended
@@ -92,14 +97,6 @@ def run(command, parts=(), pause=0, **streams):
         return status, out.read(), err.read()
 
 
-def shown(data):
-    """The bytes as they stand in a message."""
-    if data is None:
-        return "no such line"
-    text = ascii(data.decode("latin-1"))
-    return text if len(text) <= 100 else f"{text[:100]}.. of {len(data)} bytes"
-
-
 def must_have_ended(status):
     if status != 0:
         raise Failed(f"ended with status {status}")
@@ -126,9 +123,25 @@ def written(status, out, err):
     return out
 
 
+def program_of(command):
+    """The name of the program that the command runs."""
+    return Path(command[-1]).name
+
+
+def must_answer(command, data, status, out, err):
+    """The answer due to the data on standard output, on standard error what is to
+    be said of it."""
+    program = program_of(command)
+    must_have_ended(status)
+    must_be(out, answer(program, data))
+    due = said(program, data)
+    if err != due:
+        raise Failed(f"standard error holds {shown(err)}, due {shown(due)}")
+
+
 def check_list(command, data, parts, pause=0):
     """A list through a pipe, in these parts."""
-    must_be(written(*run(command, parts, pause)), answer(data))
+    must_answer(command, data, *run(command, parts, pause))
 
 
 def check_file(command, data):
@@ -136,14 +149,14 @@ def check_file(command, data):
     with TemporaryFile() as file:
         file.write(data)
         file.seek(0)
-        must_be(written(*run(command, stdin=file)), answer(data))
+        must_answer(command, data, *run(command, stdin=file))
 
 
 @lru_cache(maxsize=None)
 def help_page(command):
     """What --help prints, with no input."""
     page = written(*run([*command, "--help"], stdin=subprocess.DEVNULL))
-    if b"launchlist" not in page.split(b"\n")[0]:
+    if program_of(command).encode("ascii") not in page.split(b"\n")[0]:
         raise Failed(f"the page begins {shown(page)}")
     return page
 
@@ -162,7 +175,8 @@ def check_help_open(command):
 def check_refused(command, arguments):
     """Arguments that are not taken: the page on standard error, no answers."""
     page = help_page(command)
-    status, out, err = run([*command, *arguments], [EXAMPLE])
+    first = PROGRAMS[program_of(command)][0]
+    status, out, err = run([*command, *arguments], [example(first)])
     must_have_ended(status)
     must_be_silent("standard output", out)
     if page not in err:
@@ -209,7 +223,7 @@ BYTE_BY_BYTE = (
     "header, CR",
     "wrong header: trailing space",
     "wrong header: 201 letters",
-    "the document's example",
+    "example",
     "example without last CRLF",
     "example, last CR",
     "empty rows about a good one",
@@ -239,36 +253,50 @@ TOO_MANY = (
 )
 
 
-def list_checks():
+def list_checks(one):
     """Name, check and its arguments of each run on a list."""
-    inputs = dict(runs())
-    every = stdin()
-    yield "all lines", check_list, every, pieces(every, AT_ONCE)
-    yield "all lines from a file", check_file, every
-    yield "example from a file", check_file, EXAMPLE
+    inputs = dict(whole_inputs(one))
     for name, data in inputs.items():
         yield name, check_list, data, pieces(data, AT_ONCE)
+    yield "example from a file", check_file, inputs["example"]
     for name in BYTE_BY_BYTE:
         slow = pieces(inputs[name], 1)
         yield f"{name}, byte by byte", check_list, inputs[name], slow, PAUSE
     for name, size in IN_PIECES:
         slow = pieces(inputs[name], size)
         yield f"{name}, by {size} bytes", check_list, inputs[name], slow, PAUSE
-    for size in (199, 4095):
-        slow = pieces(every, size)
-        yield f"all lines, by {size} bytes", check_list, every, slow, PAUSE
     for name in ("4097 bytes", "rows joined by CR", "CR before CRLF"):
         slow = cut_after(inputs[name], CR)
         yield f"{name}, cut after each CR", check_list, inputs[name], slow, PAUSE
 
 
-def other_checks():
+def launchlist_checks():
+    """The same of the runs on the list of `launchlist` with every damage in it."""
+    every = stdin()
+    yield "all lines", check_list, every, pieces(every, AT_ONCE)
+    yield "all lines from a file", check_file, every
+    for size in (199, 4095):
+        slow = pieces(every, size)
+        yield f"all lines, by {size} bytes", check_list, every, slow, PAUSE
+
+
+def all_list_checks(command):
+    for one in PROGRAMS[program_of(command)]:
+        for name, *check in list_checks(one):
+            yield f"{one.name}, {name}", *check
+    if program_of(command) == "launchlist":
+        yield from launchlist_checks()
+
+
+def other_checks(command):
     """The same of the other runs."""
     yield "--help", help_page
     yield "--help with the input open", check_help_open
     for arguments in TOO_MANY:
         yield f"arguments {arguments}", check_refused, arguments
-    for name, data in (("example", EXAMPLE), ("all lines", stdin())):
+    inputs = dict(whole_inputs(PROGRAMS[program_of(command)][0]))
+    for name in ("example", "big list"):
+        data = inputs[name]
         if FULL_DEVICE.is_char_device():
             yield f"{name}, full device", check_full, data
         yield f"{name}, output not read", check_unread, data
@@ -288,15 +316,16 @@ def failures(command):
     """What each run gives, as above."""
     # Several at a time, for the slow ones mostly wait.
     with ThreadPoolExecutor(4) as pool:
-        for case in [pool.submit(failure, command, *case) for case in list_checks()]:
+        checks = all_list_checks(command)
+        for case in [pool.submit(failure, command, *check) for check in checks]:
             yield case.result()
     # One at a time: a program being started could hold a pipe of another open.
-    for case in other_checks():
-        yield failure(command, *case)
+    for check in other_checks(command):
+        yield failure(command, *check)
 
 
 def main(command):
-    if command == ():
+    if command == () or program_of(command) not in PROGRAMS:
         sys.stderr.write(USAGE)
         return 2
     passed = failed = 0

@@ -10,12 +10,14 @@ use Rattle.quantity.proofs.Outcomes.{one-named, not-answered, one-refusal, pass
 use Rattle.law.specs.declared.laws.Law.the-variants.{Curve}
 use Rattle.law.specs.Subranges.{lawNamed, subrangeNamed}
 use Rattle.certificate.specs.declared.record.Record.{Record}
+use Rattle.certificate.specs.declared.resistances.Resistances.{Resistances}
 use Rattle.certificate.specs.declared.soundness.Given.{Given}
 use Rattle.certificate.specs.declared.soundness.Certificate.{Certificate}
 use Rattle.certificate.specs.declared.soundness.CertificateAnswer.{CertificateAnswer}
 use Rattle.certificate.specs.declared.soundness.CertificateAnswer.the-variants as answer
 use Rattle.certificate.specs.Certificate.{LawAndPlaces, noPlaces, held, stated, sound, soundTests, givenBy, givenRule}
 use Rattle.certificate.specs.Record.{recordOf, recordRule}
+use Rattle.certificate.specs.Resistances.{resistancesOf, resistancesRule}
 
 -- a certificate that passes 7 is sound
 pub sound-passed : (k : Certificate) → numberGiven (soundTests k) ≡ 0 → sound k ≡ true
@@ -35,6 +37,14 @@ pub one-given : (given : Given) (x y : CertificateAnswer) → Follows (givenRule
 one-given given x y h i =
     stated-unique x y (one-named noPlaces (lawNamed (given .law .0)) (λ law. givenBy law given) (λ law a b p q. p ∙ sym q) (stated x) (stated y) h i)
 
+pub record-unique : (ratios : Record) (o o′ : Outcome LawAndPlaces) → Follows (recordRule ratios) o → Follows (recordRule ratios) o′ → o ≡ o′
+record-unique ratios = one-named noPlaces (subrangeNamed (ratios .subrange .0)) (λ s. recordOf s ratios) (λ s a b p q. p ∙ sym q)
+
 pub one-of-record : (ratios : Record) (x y : CertificateAnswer) → Follows (recordRule ratios) (stated x) → Follows (recordRule ratios) (stated y) → x ≡ y
-one-of-record ratios x y h i =
-    stated-unique x y (one-named noPlaces (subrangeNamed (ratios .subrange .0)) (λ s. recordOf s ratios) (λ s a b p q. p ∙ sym q) (stated x) (stated y) h i)
+one-of-record ratios x y h i = stated-unique x y (record-unique ratios (stated x) (stated y) h i)
+
+pub resistances-unique : (resistances : Resistances) (o o′ : Outcome LawAndPlaces) → Follows (resistancesRule resistances) o → Follows (resistancesRule resistances) o′ → o ≡ o′
+resistances-unique resistances = one-named noPlaces (subrangeNamed (resistances .subrange .0)) (λ s. resistancesOf s resistances) (λ s a b p q. p ∙ sym q)
+
+pub one-of-resistances : (resistances : Resistances) (x y : CertificateAnswer) → Follows (resistancesRule resistances) (stated x) → Follows (resistancesRule resistances) (stated y) → x ≡ y
+one-of-resistances resistances x y h i = stated-unique x y (resistances-unique resistances (stated x) (stated y) h i)

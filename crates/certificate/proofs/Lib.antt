@@ -3,3 +3,4 @@ pub mod Records
 pub mod Sound
 pub mod Made
 pub mod Answers
+pub mod AsRatios

@@ -1,4 +1,4 @@
--- Every certificate that a record yields is sound, and accepted where it is given.
+-- Every certificate that a record yields is sound, and accepted where it is given; its places are small.
 use mathlib.Core.Path.{_≡_, refl, sym, ap, subst}
 use mathlib.Core.Bool.{Bool, true, false, false≢true, _&&_, _||_, not}
 use mathlib.Core.List.{List, [], _∷_, map}
@@ -12,17 +12,18 @@ use lib.ListN.{length}
 use Rattle.whole.specs.Any.{any}
 use Rattle.whole.specs.Choice.{if_then_else_}
 use Rattle.whole.proofs.Any.{Member, of-any, or-false}
-use Rattle.quantity.specs.Outcomes.{Outcome, answered, _gives_, Follows, ifNamed}
+use Rattle.quantity.specs.Quantities.{largestRatio}
+use Rattle.quantity.specs.Outcomes.{Outcome, answered, _gives_, numberGiven, Follows, ifNamed}
 use Rattle.quantity.proofs.Outcomes.{answer-follows, passed}
 use Rattle.law.specs.declared.cell.Cell.{Cell}
-use Rattle.law.specs.declared.cell.Cell.the-variants.{Hg, Ga, In, Sn, Zn, Al, Ag}
+use Rattle.law.specs.declared.cell.Cell.the-variants.{Al}
 use Rattle.law.specs.declared.subrange.Subrange.{Subrange}
 use Rattle.law.specs.declared.laws.Law.{Law}
 use Rattle.law.specs.Cells.{Wr}
 use Rattle.law.specs.Subranges.{carried, cells, coefficients, toSilver, lawNamed, lawName, subrangeNamed}
-use Rattle.law.proofs.Subranges.{every-subrange, one-to-four, names-law}
+use Rattle.law.proofs.Subranges.{cell-fact, every-subrange, one-to-four, names-law}
 use Rattle.deviation.specs.declared.places.Places.{Places}
-use Rattle.deviation.specs.Limits.{within, largestCoefficient}
+use Rattle.deviation.specs.Limits.{within, largestCoefficient, Small}
 use Rattle.fit.specs.declared.Point.{Point}
 use Rattle.fit.specs.Fit.{fit, beyond}
 use Rattle.fit.proofs.Within.{all-within}
@@ -31,7 +32,8 @@ use Rattle.certificate.specs.declared.soundness.Certificate.{Certificate
 use Rattle.certificate.specs.Certificate.{placeKept, sound, givenOf, LawAndPlaces, held, noPlaces, givenBy}
 use Rattle.certificate.specs.Record.{ratio, ratioAbove, cellMissing, purityCellMissing, impure, deviates, point, fitted, aluminiumRatio, made, recordOf}
 use Rattle.certificate.specs.Promised.{MadeSound, MadeAccepted}
-use Rattle.certificate.proofs.Records.{all-measured, keeps-limit}
+use Rattle.certificate.proofs.Records.{all-measured, not-above, keeps-limit}
+use Rattle.certificate.proofs.Sound.{sound-limited}
 use Rattle.certificate.proofs.Answers.{held-unique}
 
 -- ---- the coefficients, by the number of cells
@@ -56,23 +58,12 @@ length-map f [] = refl
 length-map f (p ∷ ps) = ap suc (length-map f ps)
 
 -- ---- W(Al): a subrange that reaches silver needs aluminium
+-- no other cell has aluminium's Wr
 abbrev isAluminium : Cell → Bool
-isAluminium Hg = false
-isAluminium Ga = false
-isAluminium In = false
-isAluminium Sn = false
-isAluminium Zn = false
-isAluminium Al = true
-isAluminium Ag = false
+isAluminium p = eqb (Wr p) (Wr Al)
 
 aluminium-is : (p : Cell) → isAluminium p ≡ true → p ≡ Al
-aluminium-is Hg e = absurd (false≢true e)
-aluminium-is Ga e = absurd (false≢true e)
-aluminium-is In e = absurd (false≢true e)
-aluminium-is Sn e = absurd (false≢true e)
-aluminium-is Zn e = absurd (false≢true e)
-aluminium-is Al e = refl
-aluminium-is Ag e = absurd (false≢true e)
+aluminium-is p e = rw e at (cell-fact (λ (p : Cell). if isAluminium p then p else Al) (λ (p : Cell). Al) refl p)
 
 or-true : (a b : Bool) → a ≡ true → (not a || b) ≡ true → b ≡ true
 or-true true b p e = e
@@ -100,16 +91,29 @@ module _ (ratios : Record) (above : ratioAbove ratios ≡ false) (kept : deviate
       rw (places, aluminium-kept s m)
 
 -- ---- what an answered record says
-tested-sound : (s : Subrange) (ratios : Record) (k : Certificate) → Follows (recordOf s ratios) (answered (held k)) → sound k ≡ true
-tested-sound s ratios k h =
-    let a = answer-follows (recordOf s ratios) (answered (held k)) refl h in
+record Passed (s : Subrange) (ratios : Record) : Type 0 where
+  not-above : ratioAbove ratios ≡ false
+  none-missing : cellMissing ratios (cells s) ≡ false
+  kept : deviates ratios ≡ false
+  not-beyond : beyond (fitted ratios (cells s)) ≡ false
+
+tests-passed : (s : Subrange) (ratios : Record) → numberGiven (recordOf s ratios .tests) ≡ 0 → Passed s ratios
+tests-passed s ratios e =
     let beyondLimit = deviates ratios || beyond (fitted ratios (cells s)) in
-    let not-2 = passed (ratioAbove ratios) 2 (cellMissing ratios (cells s) gives 4 ∷ purityCellMissing ratios gives 5 ∷ impure s ratios gives 6 ∷ beyondLimit gives 7 ∷ []) (omega arith) (a .0) in
+    let not-2 = passed (ratioAbove ratios) 2 (cellMissing ratios (cells s) gives 4 ∷ purityCellMissing ratios gives 5 ∷ impure s ratios gives 6 ∷ beyondLimit gives 7 ∷ []) (omega arith) e in
     let not-4 = passed (cellMissing ratios (cells s)) 4 (purityCellMissing ratios gives 5 ∷ impure s ratios gives 6 ∷ beyondLimit gives 7 ∷ []) (omega arith) (not-2 .1) in
     let not-5 = passed (purityCellMissing ratios) 5 (impure s ratios gives 6 ∷ beyondLimit gives 7 ∷ []) (omega arith) (not-4 .1) in
     let not-6 = passed (impure s ratios) 6 (beyondLimit gives 7 ∷ []) (omega arith) (not-5 .1) in
     let not-7 = or-false (deviates ratios) (beyond (fitted ratios (cells s))) (passed beyondLimit 7 [] (omega arith) (not-6 .1) .0) in
-    subst (λ (k : Certificate). sound k ≡ true) (held-unique (made s ratios) k (sym (a .1))) (made-sound ratios (not-2 .0) (not-7 .0) s (not-4 .0) (not-7 .1))
+    record { not-above = not-2 .0; none-missing = not-4 .0; kept = not-7 .0; not-beyond = not-7 .1 }
+
+passed-sound : (s : Subrange) (ratios : Record) → Passed s ratios → sound (made s ratios) ≡ true
+passed-sound s ratios p = made-sound ratios (p .not-above) (p .kept) s (p .none-missing) (p .not-beyond)
+
+tested-sound : (s : Subrange) (ratios : Record) (k : Certificate) → Follows (recordOf s ratios) (answered (held k)) → sound k ≡ true
+tested-sound s ratios k h =
+    let a = answer-follows (recordOf s ratios) (answered (held k)) refl h in
+    subst (λ (k : Certificate). sound k ≡ true) (held-unique (made s ratios) k (sym (a .1))) (passed-sound s ratios (tests-passed s ratios (a .0)))
 
 pub record-sound : MadeSound
 record-sound ratios k = by (subrangeNamed (ratios .subrange .0))
@@ -117,6 +121,20 @@ record-sound ratios k = by (subrangeNamed (ratios .subrange .0))
     by : (named : Option Subrange) → Follows (ifNamed noPlaces named (λ s. recordOf s ratios)) (answered (held k)) → sound k ≡ true
     by none e = absurd (let z : _≡_ {A = ℕ} 0 3 = ap (λ (o : Outcome LawAndPlaces). o .code) e in omega arith)
     by (some s) h = tested-sound s ratios k h
+
+-- its coefficients keep their limit, and W(Al) is a ratio of the record
+pub record Sized (k : Places) : Type 0 where
+  pub small : Small k
+  pub aluminium : k .wal .0 ≤ largestRatio
+
+pub made-sized : (s : Subrange) (ratios : Record) → numberGiven (recordOf s ratios .tests) ≡ 0 → Sized (made s ratios .places)
+made-sized s ratios e =
+    let p = tests-passed s ratios e in
+    record { small = sound-limited s (made s ratios .places) (passed-sound s ratios p) .small; aluminium = by (p .not-above) (toSilver (carried s .form)) }
+  where
+    by : ratioAbove ratios ≡ false → (silver : Bool) → (if silver then ratio ratios Al else 0) ≤ largestRatio
+    by above true = not-above ratios above Al
+    by above false = omega arith
 
 -- a sound certificate is accepted
 sound-accepted : (law : Law) (k : Certificate) → k .law ≡ law → sound k ≡ true → (named : Option Law) → named ≡ some law → Follows (ifNamed noPlaces named (λ law. givenBy law (givenOf k))) (answered (held k))

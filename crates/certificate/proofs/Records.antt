@@ -23,7 +23,7 @@ use Rattle.fit.proofs.Sizes as sizes
 use Rattle.certificate.specs.declared.record.Record.{Record}
 use Rattle.certificate.specs.Record.{ratio, measured, ratioAbove, cellMissing, deviates, point}
 
-and-not : (a b : Bool) → a ≡ true → (a && not b) ≡ false → b ≡ true
+pub and-not : (a b : Bool) → a ≡ true → (a && not b) ≡ false → b ≡ true
 and-not true b p e = not-false b e
 and-not false b p e = absurd (true≢false (sym p))
 

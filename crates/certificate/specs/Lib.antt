@@ -1,4 +1,5 @@
 -- The definitions of `certificate`.
 pub mod Certificate
 pub mod Record
+pub mod Resistances
 pub mod Promised

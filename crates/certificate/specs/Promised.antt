@@ -1,11 +1,13 @@
 -- What is promised of certificates besides their answers.
 use mathlib.Core.Path.{_≡_}
-use mathlib.Core.Bool.{true}
-use Rattle.quantity.specs.Outcomes.{answered, Follows}
+use mathlib.Core.Bool.{true, false}
+use Rattle.quantity.specs.Outcomes.{Outcome, answered, Follows}
 use Rattle.certificate.specs.declared.record.Record.{Record}
+use Rattle.certificate.specs.declared.resistances.Resistances.{Resistances}
 use Rattle.certificate.specs.declared.soundness.Certificate.{Certificate}
-use Rattle.certificate.specs.Certificate.{sound, givenOf, held, givenRule}
+use Rattle.certificate.specs.Certificate.{sound, givenOf, LawAndPlaces, held, givenRule}
 use Rattle.certificate.specs.Record.{recordRule}
+use Rattle.certificate.specs.Resistances.{outside, ratiosOf, resistancesRule}
 
 -- Every certificate that a record yields is sound.
 abbrev pub MadeSound : Type 0
@@ -14,3 +16,23 @@ MadeSound = (ratios : Record) (k : Certificate) → Follows (recordRule ratios) 
 -- Given by its law's name and its places, it is answered as itself, and so never refused by 3 or 7.
 abbrev pub MadeAccepted : Type 0
 MadeAccepted = (ratios : Record) (k : Certificate) → Follows (recordRule ratios) (answered (held k)) → Follows (givenRule (givenOf k)) (answered (held k))
+
+-- ---- a record given as resistances
+-- Where every cell given is within its limits, what follows the rule of the resistances is what follows that of the record of their ratios.
+abbrev pub AsRatios : Type 0
+AsRatios =
+    (resistances : Resistances) (o : Outcome LawAndPlaces) → outside resistances ≡ false
+    → (Follows (recordRule (ratiosOf resistances)) o → Follows (resistancesRule resistances) o)
+    × (Follows (resistancesRule resistances) o → Follows (recordRule (ratiosOf resistances)) o)
+
+-- A certificate that resistances yield is yielded by the record of their ratios, so all that is said of those that records yield holds of it too.
+abbrev pub YieldedByRatios : Type 0
+YieldedByRatios =
+    (resistances : Resistances) (k : Certificate) → Follows (resistancesRule resistances) (answered (held k))
+    → Follows (recordRule (ratiosOf resistances)) (answered (held k))
+
+-- So it is accepted where it is given.
+abbrev pub ResistancesAccepted : Type 0
+ResistancesAccepted =
+    (resistances : Resistances) (k : Certificate) → Follows (resistancesRule resistances) (answered (held k))
+    → Follows (givenRule (givenOf k)) (answered (held k))

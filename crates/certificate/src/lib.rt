@@ -1,8 +1,11 @@
-// Certificates: from a record of cell ratios, or given and found sound.
+// Certificates: from a record of cell ratios or of resistances, or given and found sound.
 mod record;
+mod resistances;
 mod soundness;
 
 pub use record::Record;
+pub use resistances::Pair;
+pub use resistances::Resistances;
 pub use soundness::Certificate;
 pub use soundness::CertificateAnswer;
 pub use soundness::Given;

@@ -1,6 +1,6 @@
 -- What a ratio reads, from two neighbouring steps; and the ratio of a step, read again.
 use mathlib.Core.Path.{_≡_}
-use Prim.Native.Nat.{ℕ, _+_, _*_, _<_, _^_}
+use Prim.Native.Nat.{ℕ, _+_, _*_, _<_, _≤_, _^_}
 use native.Mathlib.Decide.{decLt}
 use native.Mathlib.Omega.{arith}
 use lib.IntN.{ℤ, pos, _+ℤ_, _-ℤ_, -ℤ-+ℤ-cancel}
@@ -11,9 +11,11 @@ use Rattle.whole.proofs.Machine.{no-lt}
 use Rattle.whole.proofs.Ring.{strictly}
 use Rattle.whole.proofs.Rounding.{floor-parts}
 use Rattle.whole.proofs.Largest.{largest-by-next}
+use Rattle.quantity.specs.Quantities.{largestRatio}
 use Rattle.curve.specs.Curve.{exact, units, first, last, pastLast}
+use Rattle.curve.specs.Ways.{RatioAt}
 use Rattle.curve.specs.Promised.{ReadsAs, ForwardReadsBack}
-use Rattle.curve.proofs.Rising.{climb, one-up, not-falling}
+use Rattle.curve.proofs.Rising.{climb, one-up, rises, not-falling}
 use Rattle.curve.proofs.Ends.{at-first, within-limit}
 use Rattle.curve.proofs.Outcomes.{reads-step}
 
@@ -34,6 +36,10 @@ module _ (step : ℤ) (w : ℕ) (e : pos w ≡ floor (exact step) (10 ^ 22)) whe
   near : exact step <ℤ (units w +ℤ pos (10 ^ 22))
   unfolding units
   near = omega (ints, floor-parts (exact step) (10 ^ 22) (omega arith), add-parts (units w) (pos (10 ^ 22)))
+
+-- so the ratio of a step is at most 4.4
+pub ratio-most : (step : ℤ) (w : ℕ) → first ≤ℤ step → step ≤ℤ last → RatioAt step w → w ≤ largestRatio
+ratio-most step w p q e = within-limit w (omega (ints, not-over step w e, rises step pastLast p (omega ints) (omega ints)))
 
 back-same : (step : ℤ) (w : ℕ) → first ≤ℤ step → step ≤ℤ last → exact step ≡ units w → ReadsAs w step
 back-same step w p q e = reads w step p q (omega ints) (omega (ints, one-up step p (omega ints)))

@@ -50,9 +50,10 @@ result-unique (Tested t) (Refused why) e = absurd (not-answered noResult _ why e
 result-unique (Refused why) (Tested u) e = absurd (not-answered noResult _ why (sym e))
 result-unique (Refused v) (Refused w) e = ap Refused (one-refusal noResult v w e)
 
-pub one-result : (letter : ℕ) (bath : ℤ) (r r0 : ℕ) (x y : ToleranceAnswer) → Follows (toleranceTest letter bath r r0) (tolerance.stated x) → Follows (toleranceTest letter bath r r0) (tolerance.stated y) → x ≡ y
-one-result letter bath r r0 x y h k =
-    result-unique x y
-    (one-named noResult (classNamed letter) (λ class. testByClass class bath r r0)
+pub test-unique : (letter : ℕ) (bath : ℤ) (r r0 : ℕ) (o o′ : Outcome Result) → Follows (toleranceTest letter bath r r0) o → Follows (toleranceTest letter bath r r0) o′ → o ≡ o′
+test-unique letter bath r r0 =
+    one-named noResult (classNamed letter) (λ class. testByClass class bath r r0)
     (λ class a b p q. p .2 ∙ ap (resultOf class bath) (one-step (units (ratioOf r r0)) (p .0) (q .0) (p .1) (q .1)) ∙ sym (q .2))
-    (tolerance.stated x) (tolerance.stated y) h k)
+
+pub one-result : (letter : ℕ) (bath : ℤ) (r r0 : ℕ) (x y : ToleranceAnswer) → Follows (toleranceTest letter bath r r0) (tolerance.stated x) → Follows (toleranceTest letter bath r r0) (tolerance.stated y) → x ≡ y
+one-result letter bath r r0 x y h k = result-unique x y (test-unique letter bath r r0 (tolerance.stated x) (tolerance.stated y) h k)

@@ -1,20 +1,5 @@
 // The help page.
 
-pub fn is_help(text: &[u8]) -> bool {
-    let help = b"--help";
-    if text.len() != help.len() {
-        return false;
-    }
-    let mut i = 0;
-    while i < text.len() {
-        if text[i] != help[i] {
-            return false;
-        }
-        i += 1;
-    }
-    true
-}
-
 fn list_part(fd: i32) -> bool {
     io::write_all(
         fd,
@@ -22,7 +7,7 @@ fn list_part(fd: i32) -> bool {
     )
         & io::write_all(
             fd,
-            b"usage: launchlist < LIST > ANSWERS\n       launchlist --help\n\n",
+            b"usage: launchlist [--status] < LIST > ANSWERS\n       launchlist --help\n\n",
         )
         & io::write_all(
             fd,
@@ -82,12 +67,17 @@ fn code_part(fd: i32) -> bool {
         )
         & io::write_all(
             fd,
-            b"the scale or refused, never by the curve. Failures to read or write are\n",
+            b"the scale or refused, never by the curve. A wrong first line and failures\n",
         )
         & io::write_all(
             fd,
-            b"said on standard error; the exit status is always 0.\n",
+            b"to read or write are said on standard error. A program in Rattle cannot\n",
         )
+        & io::write_all(
+            fd,
+            b"set its exit status: --status writes 0 or, after one of these, 1 to\n",
+        )
+        & io::write_all(fd, b"descriptor 3, and ./run makes its own status of it.\n")
 }
 
 // Whether all of it was written.

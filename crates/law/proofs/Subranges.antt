@@ -44,7 +44,10 @@ no-cell test e p = of-none test p allCells (cell-listed p) e
 pub every-subrange : (test : Subrange → Bool) → every test allSubranges ≡ true → (s : Subrange) → test s ≡ true
 every-subrange test e s = of-every test s allSubranges (subrange-listed s) e
 
--- an equation that holds over the list of subranges holds of each
+-- an equation that holds over the list of cells, or of subranges, holds of each
+pub cell-fact : {B : Type 0} (f g : Cell → B) → map f allCells ≡ map g allCells → (p : Cell) → f p ≡ g p
+cell-fact f g e p = of-map f g p allCells (cell-listed p) e
+
 pub subrange-fact : {B : Type 0} (f g : Subrange → B) → map f allSubranges ≡ map g allSubranges → (s : Subrange) → f s ≡ g s
 subrange-fact f g e s = of-map f g s allSubranges (subrange-listed s) e
 

@@ -1,18 +1,7 @@
--- Names of laws and subranges.
-use mathlib.Core.List.{List, [], _∷_}
-use Prim.Native.Nat.{ℕ, _+_, _*_}
+-- Names of laws and subranges, as numbers.
+use Prim.Native.Nat.{ℕ}
 use Prim.Native.String.{String}
-use Rattle.whole.specs.Text.{ascii}
-
--- The number n with bytes after its digits, in base 256.
-abbrev pub after : ℕ → List ℕ → ℕ
-after n [] = n
-after n (letter ∷ letters) = after (n * 256 + letter) letters
-
--- A name of ASCII letters as a number: the letters' bytes are its digits in base 256, the first letter highest. A name of up to eight letters is a number of
--- 64 bits.
-abbrev pub nameOf : List ℕ → ℕ
-nameOf letters = after 0 letters
+use Rattle.whole.specs.Text.{ascii, nameOf}
 
 abbrev pub spelled : String → ℕ
 spelled name = nameOf (ascii name)

@@ -1,81 +1,60 @@
--- What is written for a row, read or refused, is its answer.
+-- What is written for a row, answered or refused, is its answer: for lists of every kind.
 use mathlib.Core.Path.{_≡_, refl, sym, ap, _∙_, subst}
-use mathlib.Core.Bool.{Bool, true, false}
-use mathlib.Core.Option.{Option, none, some}
-use mathlib.Core.List.{List, _++_, append-assoc, append-nil}
-use native.Mathlib.Omega.{arith}
+use mathlib.Core.Bool.{true, false}
+use mathlib.Core.List.{List, [], _∷_, _++_, append-assoc, append-nil}
 use Prim.Native.Nat.{ℕ}
-use lib.IntN.{ℤ, pos, negsuc, natAbs}
-use lib.Signed.{ltZ, _≤ℤ_, _<ℤ_}
 use lib.ListN.{take}
-use Rattle.whole.specs.Choice.{if_then_else_}
 use Rattle.whole.specs.Text.{ascii}
-use Rattle.whole.proofs.Machine.{lt-yes, lt-no}
-use Rattle.whole.proofs.Parts.{ints}
 use Rattle.quantity.specs.declared.refusal.Refusal.{Refusal}
 use Rattle.quantity.specs.declared.refusal.Refusal.the-variants.{IllFormed}
 use Rattle.quantity.specs.Refusals.{numberOf}
-use Rattle.quantity.specs.Outcomes.{Outcome, answered, refused}
+use Rattle.quantity.specs.Outcomes.{Outcome, answered, refused, Follows}
 use Rattle.quantity.proofs.Outcomes.{some-number}
-use Rattle.law.specs.declared.laws.Law.{Law}
-use Rattle.law.specs.Answers.{LawAndStep, noStep}
-use Rattle.row.specs.declared.row.Row.{Row}
-use Rattle.row.specs.declared.row.Parsed.the-variants as variant
-use Rattle.row.specs.Rows as parsed
-use Rattle.row.specs.Rows.{wellFormed, idOf, lawOf, rowOf, parsedOf}
-use Rattle.row.proofs.Joined.{named}
+use Rattle.text.specs.Joined.{joined}
+use Rattle.text.specs.Decimal.{decimal}
+use Rattle.text.specs.Columns.{wellFormed, values, fieldAt}
+use Rattle.text.proofs.Names.{Repeated}
 use Rattle.line.specs.declared.lent.Placing.{Placing}
-use Rattle.line.specs.Decimal.{decimal, signedDecimal}
-use Rattle.line.specs.Answer.{names, answerLine, ReadRow}
-use Rattle.line.specs.Writing.{readText, refusedText}
+use Rattle.line.specs.Kinds.{Kind, lineEnd, answerLine, illFormedLine, blanks, ownColumns}
+use Rattle.line.specs.Writing.{commaed, refusedText}
 use Rattle.line.specs.Lent.{PlacedAs, AnsweredAs}
 
-read-text : (x : List ℕ) → x ++ ascii ",0\r\n" ≡ x ++ ascii "," ++ decimal 0 ++ ascii "\r\n"
+-- texts joined by commas, the last one aside, have a comma after each
+joined-last : (xs : List (List ℕ)) (c : List ℕ) → joined (xs ++ (c ∷ [])) ≡ commaed xs ++ c
+joined-last [] c = refl
+joined-last (x ∷ []) c = ap (λ (l : List ℕ). l ++ c) (sym (append-nil (x ++ ascii ",")))
+joined-last (x ∷ y ∷ ys) c = ap (λ (l : List ℕ). x ++ ascii "," ++ l) (joined-last (y ∷ ys) c) ∙ sym (append-assoc (x ++ ascii ",") (commaed (y ∷ ys)) c)
+
+-- so an answer line is its two names, its own columns and the code
+pub answer-text : (first second : List ℕ) (own : List (List ℕ)) (code : ℕ)
+    → (first ++ ascii "," ++ second ++ ascii ",") ++ commaed own ++ decimal code ++ lineEnd ≡ answerLine first second own code
+answer-text first second own code =
+    ap (λ (l : List ℕ). l ++ decimal code ++ lineEnd) names ∙ ap (λ (l : List ℕ). l ++ lineEnd) (sym (joined-last (first ∷ second ∷ own) (decimal code)))
+  where
+    names : (first ++ ascii "," ++ second ++ ascii ",") ++ commaed own ≡ (first ++ ascii ",") ++ ((second ++ ascii ",") ++ commaed own)
+    names = ap (λ (l : List ℕ). l ++ commaed own) (append-assoc (first ++ ascii ",") second (ascii ",")) ∙ append-assoc (first ++ ascii ",") (second ++ ascii ",") (commaed own)
+
+-- a code of 0 in its digit
+answered-end : (x : List ℕ) → x ++ ascii "0\r\n" ≡ x ++ decimal 0 ++ lineEnd
 unfolding decimal
-read-text x = sym (append-assoc (x ++ ascii ",") (decimal 0) (ascii "\r\n") ∙ append-assoc x (ascii ",") (decimal 0 ++ ascii "\r\n"))
+answered-end x = sym (append-assoc x (decimal 0) lineEnd)
 
-module _ (line out out′ : List ℕ) (x : Placing) (w : wellFormed line ≡ true) where
-  pub answered-read : (law : Law) (step : ℤ) → ReadRow (rowOf line) (answered (record { law = some law; step = step }))
-      → PlacedAs 0 (readText (take (rowOf line .prefix) line) (signedDecimal step)) out out′ x → AnsweredAs line out out′ x
-  answered-read law step r p =
-      let o : Outcome LawAndStep = answered (record { law = some law; step = step }) in
-      let text : readText (take (rowOf line .prefix) line) (signedDecimal step) ≡ answerLine (idOf line) (lawOf line) o =
-      ap (λ (n : List ℕ). readText n (signedDecimal step)) (named line w .first) ∙ read-text (names (idOf line) (lawOf line) ++ signedDecimal step) in
-      (0, answerLine (idOf line) (lawOf line) o, rw w (o, r, refl, refl), subst (λ (t : List ℕ). PlacedAs 0 t out out′ x) text p)
+module _ (kind : Kind) (line out out′ : List ℕ) (x : Placing) (w : wellFormed (kind .columns) line ≡ true) (n : ℕ) (names : Repeated line n) where
+  placed-row : (o : Outcome (kind .Answer)) → Follows (kind .rule (values (kind .columns) line)) o
+      → PlacedAs (o .code) (take n line ++ commaed (ownColumns kind o) ++ decimal (o .code) ++ lineEnd) out out′ x → AnsweredAs kind line out out′ x
+  placed-row o r p =
+      let text = ap (λ (l : List ℕ). l ++ commaed (ownColumns kind o) ++ decimal (o .code) ++ lineEnd) (names .first) ∙ answer-text (fieldAt 0 line) (fieldAt 1 line) (ownColumns kind o) (o .code) in
+      (o .code, answerLine (fieldAt 0 line) (fieldAt 1 line) (ownColumns kind o) (o .code), rw w (o, r, refl, refl), subst (λ (t : List ℕ). PlacedAs (o .code) t out out′ x) text p)
 
-  pub answered-refused : (why : Refusal) → ReadRow (rowOf line) (refused noStep (numberOf why))
-      → PlacedAs (numberOf why) (refusedText (take (rowOf line .prefix) line) (numberOf why)) out out′ x → AnsweredAs line out out′ x
-  answered-refused why r p =
-      let o : Outcome LawAndStep = refused noStep (numberOf why) in
-      let text : refusedText (take (rowOf line .prefix) line) (numberOf why) ≡ answerLine (idOf line) (lawOf line) o =
-      ap (λ (n : List ℕ). refusedText n (numberOf why)) (named line w .first)
-      ∙ rw (some-number why, append-nil (names (idOf line) (lawOf line))) in
-      (numberOf why, answerLine (idOf line) (lawOf line) o, rw w (o, r, refl, refl), subst (λ (t : List ℕ). PlacedAs (numberOf why) t out out′ x) text p)
+  pub placed-answered : (a : kind .Answer) → Follows (kind .rule (values (kind .columns) line)) (answered a)
+      → PlacedAs 0 (take n line ++ commaed (kind .written a) ++ ascii "0\r\n") out out′ x → AnsweredAs kind line out out′ x
+  placed-answered a r p = placed-row (answered a) r (subst (λ (t : List ℕ). PlacedAs 0 t out out′ x) (answered-end (take n line ++ commaed (kind .written a))) p)
 
-pub step-below : (z : ℤ) → ltZ z (pos 0) ≡ true → ascii "-" ++ decimal (natAbs z) ≡ signedDecimal z
-step-below (pos n) e = absurd (let h : pos n <ℤ pos 0 = lt-yes refl e in omega ints)
-step-below (negsuc n) e = refl
+  pub placed-refused : (zeros : kind .Answer) (why : Refusal) → Follows (kind .rule (values (kind .columns) line)) (refused zeros (numberOf why))
+      → PlacedAs (numberOf why) (refusedText (take n line) (commaed (blanks (kind .own))) (numberOf why)) out out′ x → AnsweredAs kind line out out′ x
+  placed-refused zeros why r p = placed-row (refused zeros (numberOf why)) r (rw (some-number why) p)
 
-pub step-above : (z : ℤ) → ltZ z (pos 0) ≡ false → decimal (natAbs z) ≡ signedDecimal z
-step-above (pos n) e = refl
-step-above (negsuc n) e = absurd (let h : pos 0 ≤ℤ negsuc n = lt-no refl e in omega ints)
-
--- what parsing a line answered
-rowIn : Row → Option Row → Row
-rowIn other (some row) = row
-rowIn other none = other
-
-pub well-formed : (line : List ℕ) (row : Row) → parsed.stated (variant.Row row) ≡ parsedOf line → (wellFormed line ≡ true) × (row ≡ rowOf line)
-unfolding rowIn
-well-formed line row = by (wellFormed line)
-  where
-    by : (t : Bool) → parsed.stated (variant.Row row) ≡ (if t then record { code = 0; row = some (rowOf line) } else record { code = numberOf IllFormed; row = none }) → (t ≡ true) × (row ≡ rowOf line)
-    by true e = (refl, ap (λ (o : parsed.Outcome). rowIn row (o .row)) e)
-    by false e = absurd (let code : 0 ≡ numberOf IllFormed = ap (λ (o : parsed.Outcome). o .code) e in omega arith)
-
-pub ill-formed : (line : List ℕ) → parsed.stated variant.IllFormed ≡ parsedOf line → wellFormed line ≡ false
-ill-formed line = by (wellFormed line)
-  where
-    by : (t : Bool) → parsed.stated variant.IllFormed ≡ (if t then record { code = 0; row = some (rowOf line) } else record { code = numberOf IllFormed; row = none }) → t ≡ false
-    by true e = absurd (let code : numberOf IllFormed ≡ 0 = ap (λ (o : parsed.Outcome). o .code) e in omega arith)
-    by false e = refl
+-- a line that is no row
+pub placed-ill-formed : (kind : Kind) (line out out′ : List ℕ) (x : Placing) (number : ℕ) → wellFormed (kind .columns) line ≡ false → number ≡ numberOf IllFormed
+    → PlacedAs number (illFormedLine kind) out out′ x → AnsweredAs kind line out out′ x
+placed-ill-formed kind line out out′ x number w n p = (number, illFormedLine kind, rw w (n, refl), p)

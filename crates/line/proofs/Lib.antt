@@ -1,7 +1,6 @@
 -- The proofs about a line's answer.
-pub mod Overs
-pub mod Decimals
 pub mod Placing
 pub mod Answers
 pub mod Unique
-pub mod Round
+pub mod Short
+pub mod ReadRows

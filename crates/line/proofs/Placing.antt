@@ -11,8 +11,9 @@ use Rattle.whole.specs.Choice.{if_then_else_}
 use Rattle.line.specs.declared.lent.LineAnswer.{LineAnswer}
 use Rattle.line.specs.declared.lent.Placing.{Placing}
 use Rattle.line.specs.Lent.{Placed, PlacedAs}
-use Rattle.line.specs.Writing.{over, noRoom}
-use Rattle.line.proofs.Overs.{over-start, over-more}
+use Rattle.text.specs.Writing.{over}
+use Rattle.line.specs.Writing.{noRoom}
+use Rattle.text.proofs.Overs.{over-start, over-more}
 
 pub placed : (number : ℕ) (text out out′ : List ℕ) (wrote : ℕ) → wrote ≡ length text → wrote ≤ length out → out′ ≡ text ++ drop (length text) out
     → PlacedAs number text out out′ (record { answer = record { code = number; wrote = wrote }; fitted = true })

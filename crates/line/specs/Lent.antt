@@ -1,16 +1,15 @@
 -- The answer to a line in a lent buffer.
 use mathlib.Core.Path.{_≡_}
 use mathlib.Core.List.{List, _++_}
-use Prim.Native.Nat.{ℕ, _+_, _≤_}
+use Prim.Native.Nat.{ℕ}
 use lib.Dec.{leb}
 use lib.ListN.{length, drop}
 use Rattle.whole.specs.Choice.{if_then_else_}
 use Rattle.quantity.specs.Refusals.{numberOf}
 use Rattle.quantity.specs.declared.refusal.Refusal.the-variants.{BufferShort}
-use Rattle.row.specs.Rows.{longestId, longestLaw}
 use Rattle.line.specs.declared.lent.LineAnswer.{LineAnswer}
 use Rattle.line.specs.declared.lent.Placing.{Placing}
-use Rattle.line.specs.Answer.{Answered}
+use Rattle.line.specs.Kinds.{Kind, Answered}
 
 -- A text in a buffer that may be too short for it: the buffer's first bytes are the text and the others stay, or 11 and every byte stays.
 abbrev pub Placed : ℕ → List ℕ → List ℕ → List ℕ → LineAnswer → Type 0
@@ -19,19 +18,12 @@ Placed number text out out′ x =
     else (x ≡ record { code = numberOf BufferShort; wrote = 0 }) × (out′ ≡ out)
 
 -- What answering a line promises of the number, the count of bytes written and every byte of the buffer.
-abbrev pub AnsweredInto : List ℕ → List ℕ → List ℕ → LineAnswer → Type 0
-AnsweredInto line out out′ x = (number : ℕ) × (text : List ℕ) × Answered line number text × Placed number text out out′ x
+abbrev pub AnsweredInto : Kind → List ℕ → List ℕ → List ℕ → LineAnswer → Type 0
+AnsweredInto kind line out out′ x = (number : ℕ) × (text : List ℕ) × Answered kind line number text × Placed number text out out′ x
 
 -- The same two, with whether the text fitted, by which the caller goes on.
 abbrev pub PlacedAs : ℕ → List ℕ → List ℕ → List ℕ → Placing → Type 0
 PlacedAs number text out out′ x = Placed number text out out′ (x .answer) × (x .fitted ≡ leb (length text) (length out))
 
-abbrev pub AnsweredAs : List ℕ → List ℕ → List ℕ → Placing → Type 0
-AnsweredAs line out out′ x = (number : ℕ) × (text : List ℕ) × Answered line number text × PlacedAs number text out out′ x
-
--- So many bytes hold every answer line: id, law, t, which has at most 8 bytes, and code, which then has 1, with three commas and CRLF.
-abbrev pub room : ℕ
-room = longestId + 1 + longestLaw + 1 + 8 + 1 + 1 + 2
-
-abbrev pub AnswersFit : Type 0
-AnswersFit = (line : List ℕ) (number : ℕ) (text : List ℕ) → Answered line number text → length text ≤ room
+abbrev pub AnsweredAs : Kind → List ℕ → List ℕ → List ℕ → Placing → Type 0
+AnsweredAs kind line out out′ x = (number : ℕ) × (text : List ℕ) × Answered kind line number text × PlacedAs number text out out′ x

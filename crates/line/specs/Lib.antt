@@ -1,6 +1,6 @@
 -- The definitions about a line's answer.
-pub mod Decimal
-pub mod Answer
+pub mod Kinds
 pub mod Lent
+pub mod Readings
 pub mod Writing
 pub mod Promised

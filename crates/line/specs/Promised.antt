@@ -1,28 +1,26 @@
--- What is promised of numbers and lines besides each call's own outcome.
+-- What is promised of answers to lines besides each call's own outcome.
 use mathlib.Core.Path.{_≡_}
-use mathlib.Core.Bool.{true}
 use mathlib.Core.List.{List}
-use Prim.Native.Nat.{ℕ, _^_, _<_}
-use lib.IntN.{ℤ, natAbs}
-use Rattle.row.specs.Numbers.{mostDigits, isNumber, valueOf, isSigned, signedOf}
+use Prim.Native.Nat.{ℕ, _<_, _≤_}
+use lib.ListN.{length}
+use Rattle.quantity.specs.Refusals.{numberOf}
+use Rattle.quantity.specs.declared.refusal.Refusal.the-variants.{BufferShort}
 use Rattle.line.specs.declared.lent.LineAnswer.{LineAnswer}
-use Rattle.line.specs.Decimal.{decimal, signedDecimal}
+use Rattle.line.specs.Kinds.{Kind, Answered}
 use Rattle.line.specs.Lent.{AnsweredInto}
 
--- Two outcomes that answering a line allows are one, in every byte of the buffer.
-abbrev pub OneAnswer : Type 0
-OneAnswer = (line out out′ out″ : List ℕ) (x y : LineAnswer) → AnsweredInto line out out′ x → AnsweredInto line out out″ y → (x ≡ y) × (out′ ≡ out″)
+-- A line has one answer.
+abbrev pub OneAnswer : Kind → Type 0
+OneAnswer kind = (line : List ℕ) (n n′ : ℕ) (t t′ : List ℕ) → Answered kind line n t → Answered kind line n′ t′ → (n ≡ n′) × (t ≡ t′)
 
--- A number written and read back is the same.
-abbrev pub NumberReadBack : Type 0
-NumberReadBack = (n : ℕ) → n < 10 ^ mostDigits → (isNumber (decimal n) ≡ true) × (valueOf (decimal n) ≡ n)
+-- Two outcomes that answering a line into a lent buffer allows are one, in every byte of the buffer.
+abbrev pub OneAnswerInto : Kind → Type 0
+OneAnswerInto kind = (line out out′ out″ : List ℕ) (x y : LineAnswer) → AnsweredInto kind line out out′ x → AnsweredInto kind line out out″ y → (x ≡ y) × (out′ ≡ out″)
 
-abbrev pub SignedReadBack : Type 0
-SignedReadBack = (z : ℤ) → natAbs z < 10 ^ mostDigits → (isSigned (signedDecimal z) ≡ true) × (signedOf (signedDecimal z) ≡ z)
+-- So many bytes hold every answer.
+abbrev pub AnswersFit : Kind → ℕ → Type 0
+AnswersFit kind room = (line : List ℕ) (number : ℕ) (text : List ℕ) → Answered kind line number text → length text ≤ room
 
--- A number read and written back is the same: no two fields say one number.
-abbrev pub NumberWrittenBack : Type 0
-NumberWrittenBack = (s : List ℕ) → isNumber s ≡ true → decimal (valueOf s) ≡ s
-
-abbrev pub SignedWrittenBack : Type 0
-SignedWrittenBack = (s : List ℕ) → isSigned s ≡ true → signedDecimal (signedOf s) ≡ s
+-- No answer has the number of a short buffer.
+abbrev pub NumbersFew : Kind → Type 0
+NumbersFew kind = (line : List ℕ) (number : ℕ) (text : List ℕ) → Answered kind line number text → number < numberOf BufferShort

@@ -1,24 +1,24 @@
 -- What the inner functions of answering write; no promise to a caller rests on it.
 use mathlib.Core.Bool.{false}
-use mathlib.Core.List.{List, _++_}
-use Prim.Native.Nat.{ℕ, _+_}
-use lib.ListN.{length, take, drop}
+use mathlib.Core.List.{List, [], _∷_, _++_}
+use Prim.Native.Nat.{ℕ}
 use Rattle.whole.specs.Text.{ascii}
 use Rattle.quantity.specs.Refusals.{numberOf}
 use Rattle.quantity.specs.declared.refusal.Refusal.the-variants.{BufferShort}
+use Rattle.text.specs.Decimal.{decimal}
 use Rattle.line.specs.declared.lent.Placing.{Placing}
-use Rattle.line.specs.Decimal.{decimal}
 
--- The buffer with a text written over its bytes from an offset on.
-abbrev pub over : List ℕ → ℕ → List ℕ → List ℕ
-over out at text = take at out ++ text ++ drop (at + length text) out
-
--- The answer line after its names, for a line that was read and for one that was refused.
+-- The answer line after its names, for a row that was read and for one that was refused, whose own columns are as many commas.
 abbrev pub readText : List ℕ → List ℕ → List ℕ
-readText first t = first ++ t ++ ascii ",0\r\n"
+readText names t = names ++ t ++ ascii ",0\r\n"
 
-abbrev pub refusedText : List ℕ → ℕ → List ℕ
-refusedText first number = first ++ ascii "," ++ decimal number ++ ascii "\r\n"
+abbrev pub refusedText : List ℕ → List ℕ → ℕ → List ℕ
+refusedText names commas number = names ++ commas ++ decimal number ++ ascii "\r\n"
+
+-- Texts with a comma after each.
+abbrev pub commaed : List (List ℕ) → List ℕ
+commaed [] = []
+commaed (text ∷ texts) = (text ++ ascii ",") ++ commaed texts
 
 -- What is said of a text that does not fit.
 abbrev pub noRoom : Placing

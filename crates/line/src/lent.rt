@@ -3,7 +3,8 @@ ghost use mathlib.Core.Path.{_≡_};
 ghost use Prim.Native.Nat.{_+_, _≤_};
 ghost use lib.ListN.{length};
 ghost use Rattle.line.specs.Lent.{PlacedAs};
-ghost use Rattle.line.specs.Writing.{over, noRoom};
+ghost use Rattle.text.specs.Columns.{longestLine};
+ghost use Rattle.line.specs.Writing.{refusedText, noRoom};
 use quantity::Refusal;
 
 // What was answered to a line: the number, 0 where the line is read, and how many bytes of the buffer were written.
@@ -31,18 +32,6 @@ pub fn no_room() -> Placing
     }
 }
 
-// Writes s from `at` on.
-pub fn put(out: &mut [u8], at: usize, s: &[u8])
-    requires { ⌜ at + length (now s) ≤ length (now out) ⌝ }
-    ensures { λ _. ⌜ now (out .exit) ≡ over (now (out .entry)) at (now (s .entry)) ⌝ }
-{
-    let mut i = 0;
-    while i < s.len() {
-        out[at + i] = s[i];
-        i += 1;
-    }
-}
-
 // Writes a text that stands for a line with this number, or nothing where the buffer is too short.
 pub fn place(number: u8, text: &[u8], out: &mut [u8]) -> Placing
     ensures { λ r. ⌜ PlacedAs number (now (text .entry)) (now (out .entry)) (now (out .exit)) r ⌝ }
@@ -50,12 +39,36 @@ pub fn place(number: u8, text: &[u8], out: &mut [u8]) -> Placing
     if out.len() < text.len() {
         return no_room();
     }
-    put(out, 0, text);
+    text::put(out, 0, text);
     Placing {
         answer: LineAnswer {
             code: number,
             wrote: text.len(),
         },
+        fitted: true,
+    }
+}
+
+// Writes the answer to a refused row: its names, a comma for each of the answer's own columns, and the number.
+pub fn place_refused(names: &[u8], commas: &[u8], number: u8, out: &mut [u8]) -> Placing
+    requires { ⌜ (length (now names) ≤ longestLine) × (length (now commas) ≤ longestLine) ⌝ }
+    ensures { λ r. ⌜ PlacedAs number (refusedText (now (names .entry)) (now (commas .entry)) number) (now (out .entry)) (now (out .exit)) r ⌝ }
+{
+    let digits = text::width(number as u64);
+    let after_names = names.len();
+    let after_commas = after_names + commas.len();
+    let after_digits = after_commas + digits;
+    if out.len() < after_digits + 2 {
+        return no_room();
+    }
+    text::put(out, 0, names);
+    text::put(out, after_names, commas);
+    text::put_digits(out, after_commas, number as u64, digits);
+    text::put(out, after_digits, b"\r\n");
+    let code = number;
+    let wrote = after_digits + 2;
+    Placing {
+        answer: LineAnswer { code, wrote },
         fitted: true,
     }
 }

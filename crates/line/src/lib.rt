@@ -1,10 +1,10 @@
 // The answer to one line of a list, written into a lent buffer.
-mod answering;
-mod decimal;
 mod lent;
+mod readings;
 
-pub use answering::answer;
-pub use answering::place_answer;
 pub use lent::LineAnswer;
 pub use lent::Placing;
 pub use lent::place;
+pub use lent::place_refused;
+pub use readings::answer_reading;
+pub use readings::place_reading;

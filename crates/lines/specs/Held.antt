@@ -5,7 +5,7 @@ use Prim.Native.Nat.{ℕ, _+_, _-_}
 use lib.Dec.{leb}
 use lib.ListN.{length, take, drop}
 use Rattle.whole.specs.Choice.{if_then_else_}
-use Rattle.row.specs.Rows.{longestLine}
+use Rattle.text.specs.Columns.{longestLine}
 use Rattle.lines.specs.Lines.{lastByte}
 
 -- Two bytes more than the longest line, so that all but the last byte held of a longer one is still longer than a line may be.

@@ -2,3 +2,4 @@
 pub mod Lines
 pub mod Held
 pub mod Ends
+pub mod Feeds

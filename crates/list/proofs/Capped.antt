@@ -2,44 +2,51 @@
 use mathlib.Core.Path.{_≡_, refl, sym, ap, _∙_, subst}
 use mathlib.Core.Bool.{Bool, true, false, true≢false}
 use mathlib.Core.List.{List, [], _∷_, _++_}
+use mathlib.Core.Option.{Option, none}
 use Prim.Native.Nat.{ℕ, _-_, _≤_, _<_}
 use native.Mathlib.Omega.{arith}
 use lib.ListN.{length}
 use lib.Seq.{length-take-le}
-use borrow.Author.Tests.{lt-leb}
 use Rattle.whole.specs.Choice.{if_then_else_}
-use Rattle.row.specs.Rows.{longestLine, wellFormed}
-use Rattle.line.specs.Answer.{RowAnswered, illFormedLine}
+use Rattle.text.specs.Columns.{longestLine}
+use Rattle.text.proofs.Rows.{too-long}
+use Rattle.line.specs.Kinds.{inputHeader, RowAnswered, illFormedLine}
+use Rattle.list.specs.declared.kinds.Kind.{Kind}
+use Rattle.list.specs.declared.kinds.Desk.{Desk}
 use Rattle.quantity.specs.Refusals.{numberOf}
 use Rattle.quantity.specs.declared.refusal.Refusal.the-variants.{IllFormed}
 use Rattle.list.specs.declared.state.Stage.{Stage}
 use Rattle.list.specs.declared.state.Stage.the-variants.{Header, Rows, Stopped}
 use Rattle.lines.specs.Lines.{allButLast, endsLine, ended}
-use Rattle.list.specs.Lists.{same, inputHeader, outputHeader, wrongHeader}
+use Rattle.list.specs.Kinds.{kindOf, taken, kindHeaded, headed}
 use Rattle.lines.specs.Held.{mostHeld, capped}
-use Rattle.list.specs.Feeding.{Due, next, DueToAll, DueAtEnd}
+use Rattle.list.specs.Feeding.{HeaderDue, Due, afterHeader, next, DueToAll, DueAtEnd}
 use Rattle.lines.proofs.Capped.{Alike, equal, over, alike-sym, capped-alike, alike-ends, alike-byte}
 use Rattle.list.proofs.Same.{same-not}
+use Rattle.list.proofs.Headers.{headers-short}
 
-over-ill : (line : List ℕ) → longestLine < length line → wellFormed line ≡ false
-over-ill line h = rw (lt-leb (length line) longestLine h)
+-- no header is that long
+headed-not : (ks : List Kind) (line : List ℕ) → longestLine < length line → kindHeaded ks line ≡ none
+headed-not [] line h = refl
+headed-not (k ∷ ks) line h = rw (same-not line (inputHeader (kindOf k)) (λ e. omega (arith, headers-short k))) (headed-not ks line h)
 
-over-not-header : (line : List ℕ) → longestLine < length line → same line inputHeader ≡ false
-over-not-header line h = same-not line inputHeader (λ e. omega arith)
+over-not-header : (desk : Desk) (line : List ℕ) → longestLine < length line → headed desk line ≡ none
+unfolding headed
+over-not-header desk line h = headed-not (taken desk) line h
 
 -- A line that is too long is answered as any other such line.
 module _ (p q : List ℕ) (hp : longestLine < length p) (hq : longestLine < length q) where
   over-due : (g : Stage) (n : ℕ) (t : List ℕ) → _≡_ {A = Type 0} (Due g p n t) (Due g q n t)
-  over-due Header n t =
-      ap (λ (u : Bool). if u then (n ≡ 0) × (t ≡ outputHeader) else (n ≡ numberOf IllFormed) × (t ≡ wrongHeader)) (over-not-header p hp ∙ sym (over-not-header q hq))
-  over-due Rows n t =
-      ap (λ (u : Bool). if u then RowAnswered p n t else (n ≡ numberOf IllFormed) × (t ≡ illFormedLine)) (over-ill p hp)
-      ∙ sym (ap (λ (u : Bool). if u then RowAnswered q n t else (n ≡ numberOf IllFormed) × (t ≡ illFormedLine)) (over-ill q hq))
+  over-due (Header desk) n t = ap (λ (k : Option Kind). HeaderDue desk k n t) (over-not-header desk p hp ∙ sym (over-not-header desk q hq))
+  over-due (Rows k) n t =
+      let kind = kindOf k in
+      ap (λ (u : Bool). if u then RowAnswered kind p n t else (n ≡ numberOf IllFormed) × (t ≡ illFormedLine kind)) (too-long (kind .columns) p hp)
+      ∙ sym (ap (λ (u : Bool). if u then RowAnswered kind q n t else (n ≡ numberOf IllFormed) × (t ≡ illFormedLine kind)) (too-long (kind .columns) q hq))
   over-due Stopped n t = refl
 
   over-next : (g : Stage) → next g p ≡ next g q
-  over-next Header = ap (λ (u : Bool). if u then Rows else Stopped) (over-not-header p hp ∙ sym (over-not-header q hq))
-  over-next Rows = refl
+  over-next (Header desk) = ap afterHeader (over-not-header desk p hp ∙ sym (over-not-header desk q hq))
+  over-next (Rows k) = refl
   over-next Stopped = refl
 
 -- ---- what is due to alike lines
@@ -72,8 +79,8 @@ alike-all {p} {q} a (b ∷ s) g later text d = by (endsLine p b) (endsLine q b) 
 
 at-end-some : (g : Stage) (line : List ℕ) (n : ℕ) (t : List ℕ) → 0 < length line → _≡_ {A = Type 0} (DueAtEnd g line n t) (Due g line n t)
 at-end-some g [] n t h = absurd (omega arith)
-at-end-some Header (b ∷ s) n t h = refl
-at-end-some Rows (b ∷ s) n t h = refl
+at-end-some (Header desk) (b ∷ s) n t h = refl
+at-end-some (Rows k) (b ∷ s) n t h = refl
 at-end-some Stopped (b ∷ s) n t h = refl
 
 pub alike-at-end : {p q : List ℕ} → Alike p q → (g : Stage) (n : ℕ) (t : List ℕ) → DueAtEnd g p n t → DueAtEnd g q n t

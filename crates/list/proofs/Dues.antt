@@ -1,18 +1,23 @@
 -- What is due to lines: to some after others, and that it is one text, which is short.
 use mathlib.Core.Path.{_≡_, refl, sym, ap, ap₂, _∙_, subst}
 use mathlib.Core.List.{List, [], _∷_, _++_, append-assoc, append-nil}
+use mathlib.Core.Option.{Option, none, some}
 use Prim.Native.Nat.{ℕ, _+_, _≤_, _<_}
 use native.Mathlib.Omega.{arith}
 use lib.ListN.{length, length-append}
-use Rattle.whole.proofs.Choice.{if-cases, if-both}
 use Rattle.quantity.specs.Refusals.{numberOf}
-use Rattle.quantity.specs.declared.refusal.Refusal.the-variants.{BufferShort}
-use Rattle.line.specs.Lent.{room}
+use Rattle.quantity.specs.declared.refusal.Refusal.the-variants.{IllFormed, BufferShort}
+use Rattle.text.specs.Decimal.{decimal}
+use Rattle.list.specs.declared.kinds.Kind.{Kind}
+use Rattle.list.specs.declared.kinds.Desk.{Desk}
+use Rattle.list.specs.declared.kinds.Desk.the-variants.{Launch, Bench}
 use Rattle.list.specs.declared.state.Stage.{Stage}
 use Rattle.list.specs.declared.state.Stage.the-variants.{Header, Rows, Stopped}
-use Rattle.list.specs.Lists.{same, inputHeader}
-use Rattle.list.specs.Feeding.{Due, next, DueToAll, DueAtEnd}
-use Rattle.line.proofs.Unique.{one-answer, number-few, answers-fit}
+use Rattle.list.specs.Kinds.{headed, wrongHeader, room}
+use Rattle.list.specs.Feeding.{HeaderDue, Due, next, DueToAll, DueAtEnd}
+use Rattle.list.specs.Promised.{roomAt}
+use Rattle.list.proofs.OfKinds.{one-answer-of, answers-fit-of, numbers-few-of}
+use Rattle.list.proofs.Headers.{header-short}
 
 pub due-append : (g between later : Stage) (x y : List (List ℕ)) (t u : List ℕ) → DueToAll g x t between → DueToAll between y u later → DueToAll g (x ++ y) (t ++ u) later
 due-append g between later [] y t u (e, f) k = subst (λ (s : List ℕ). DueToAll g y (s ++ u) later) (sym e) (subst (λ (g′ : Stage). DueToAll g′ y u later) f k)
@@ -47,10 +52,13 @@ due-parted g later (line ∷ x) y text (n, first, rest, due, more, e) =
     }
 
 -- ---- one text, number and stage
+header-unique : (desk : Desk) (k : Option Kind) (n n′ : ℕ) (t t′ : List ℕ) → HeaderDue desk k n t → HeaderDue desk k n′ t′ → (n ≡ n′) × (t ≡ t′)
+header-unique desk none n n′ t t′ h i = (h .0 ∙ sym (i .0), h .1 ∙ sym (i .1))
+header-unique desk (some k) n n′ t t′ h i = (h .0 ∙ sym (i .0), h .1 ∙ sym (i .1))
+
 pub due-unique : (g : Stage) (line : List ℕ) (n n′ : ℕ) (t t′ : List ℕ) → Due g line n t → Due g line n′ t′ → (n ≡ n′) × (t ≡ t′)
-due-unique Header line n n′ t t′ h k =
-    if-both (same line inputHeader) h k (λ x y. (x .0 ∙ sym (y .0), x .1 ∙ sym (y .1))) (λ x y. (x .0 ∙ sym (y .0), x .1 ∙ sym (y .1)))
-due-unique Rows line n n′ t t′ h k = one-answer line n n′ t t′ h k
+due-unique (Header desk) line n n′ t t′ h i = header-unique desk (headed desk line) n n′ t t′ h i
+due-unique (Rows k) line n n′ t t′ h i = one-answer-of k line n n′ t t′ h i
 due-unique Stopped line n n′ t t′ h k = (h .0 ∙ sym (k .0), h .1 ∙ sym (k .1))
 
 pub all-unique : (g : Stage) (lines : List (List ℕ)) (t t′ : List ℕ) (later later′ : Stage) → DueToAll g lines t later → DueToAll g lines t′ later′ → (t ≡ t′) × (later ≡ later′)
@@ -61,32 +69,41 @@ all-unique g (line ∷ lines) t t′ later later′ (n, first, rest, due, more, 
     (e ∙ ap₂ (λ (x : List ℕ) (y : List ℕ). x ++ y) (one .1) (others .0) ∙ sym e′, others .1)
 
 pub at-end-unique : (g : Stage) (line : List ℕ) (n n′ : ℕ) (t t′ : List ℕ) → DueAtEnd g line n t → DueAtEnd g line n′ t′ → (n ≡ n′) × (t ≡ t′)
-at-end-unique Header [] n n′ t t′ h k = (h .0 ∙ sym (k .0), h .1 ∙ sym (k .1))
-at-end-unique Rows [] n n′ t t′ h k = (h .0 ∙ sym (k .0), h .1 ∙ sym (k .1))
+at-end-unique (Header desk) [] n n′ t t′ h k = (h .0 ∙ sym (k .0), h .1 ∙ sym (k .1))
+at-end-unique (Rows k′) [] n n′ t t′ h k = (h .0 ∙ sym (k .0), h .1 ∙ sym (k .1))
 at-end-unique Stopped [] n n′ t t′ h k = (h .0 ∙ sym (k .0), h .1 ∙ sym (k .1))
-at-end-unique Header (b ∷ s) n n′ t t′ h k = due-unique Header (b ∷ s) n n′ t t′ h k
-at-end-unique Rows (b ∷ s) n n′ t t′ h k = due-unique Rows (b ∷ s) n n′ t t′ h k
+at-end-unique (Header desk) (b ∷ s) n n′ t t′ h k = due-unique (Header desk) (b ∷ s) n n′ t t′ h k
+at-end-unique (Rows k′) (b ∷ s) n n′ t t′ h k = due-unique (Rows k′) (b ∷ s) n n′ t t′ h k
 at-end-unique Stopped (b ∷ s) n n′ t t′ h k = due-unique Stopped (b ∷ s) n n′ t t′ h k
 
 -- ---- a short text, and not the number of a short buffer
-pub record Small (n : ℕ) (t : List ℕ) : Type 0 where
+pub record Small (room n : ℕ) (t : List ℕ) : Type 0 where
   pub number : n < numberOf BufferShort
   pub text : length t ≤ room
 
-small : {n m : ℕ} {t u : List ℕ} → m < numberOf BufferShort → length u ≤ room → (n ≡ m) × (t ≡ u) → Small n t
+small : {room n m : ℕ} {t u : List ℕ} → m < numberOf BufferShort → length u ≤ room → (n ≡ m) × (t ≡ u) → Small room n t
 small h k (e, f) = record { number = rw e h; text = rw f k }
 
-pub due-small : (g : Stage) (line : List ℕ) (n : ℕ) (t : List ℕ) → Due g line n t → Small n t
-due-small Header line n t h = if-cases (same line inputHeader) h (small (omega arith) (omega arith)) (small (omega arith) (omega arith))
-due-small Rows line n t h = record { number = number-few line n t h; text = answers-fit line n t h }
+wrong-small : (desk : Desk) (n : ℕ) (t : List ℕ) → (n ≡ numberOf IllFormed) × (t ≡ wrongHeader desk) → Small (room desk) n t
+unfolding decimal
+wrong-small Launch n t = small (omega arith) (omega arith)
+wrong-small Bench n t = small (omega arith) (omega arith)
+
+header-small : (desk : Desk) (k : Option Kind) (n : ℕ) (t : List ℕ) → HeaderDue desk k n t → Small (room desk) n t
+header-small desk none n t h = wrong-small desk n t h
+header-small desk (some k) n t (i, j) = record { number = rw i (omega arith); text = rw j (header-short desk k) }
+
+pub due-small : (g : Stage) (line : List ℕ) (n : ℕ) (t : List ℕ) → Due g line n t → Small (roomAt g) n t
+due-small (Header desk) line n t h = header-small desk (headed desk line) n t h
+due-small (Rows k) line n t h = record { number = numbers-few-of k line n t h; text = answers-fit-of k line n t h }
 due-small Stopped line n t h = small (omega arith) (omega arith) h
 
-pub at-end-small : (g : Stage) (line : List ℕ) (n : ℕ) (t : List ℕ) → DueAtEnd g line n t → Small n t
-at-end-small Header [] n t h = small (omega arith) (omega arith) h
-at-end-small Rows [] n t h = small (omega arith) (omega arith) h
+pub at-end-small : (g : Stage) (line : List ℕ) (n : ℕ) (t : List ℕ) → DueAtEnd g line n t → Small (roomAt g) n t
+at-end-small (Header desk) [] n t h = wrong-small desk n t h
+at-end-small (Rows k) [] n t h = small (omega arith) (omega arith) h
 at-end-small Stopped [] n t h = small (omega arith) (omega arith) h
-at-end-small Header (b ∷ s) n t h = due-small Header (b ∷ s) n t h
-at-end-small Rows (b ∷ s) n t h = due-small Rows (b ∷ s) n t h
+at-end-small (Header desk) (b ∷ s) n t h = due-small (Header desk) (b ∷ s) n t h
+at-end-small (Rows k) (b ∷ s) n t h = due-small (Rows k) (b ∷ s) n t h
 at-end-small Stopped (b ∷ s) n t h = due-small Stopped (b ∷ s) n t h
 
 -- What is due to the first lines and the next is within what is due to all.

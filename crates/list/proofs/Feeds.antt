@@ -224,8 +224,8 @@ held-is held count n long e = by (leb count mostHeld) refl e
 -- the partial line at the end of the input is the last line
 pub due-last : (g : Stage) (line : List ℕ) (n : ℕ) (t : List ℕ) → 1 ≤ length line → Due g line n t → DueAtEnd g line n t
 due-last g [] n t h d = absurd (omega arith)
-due-last Header (b ∷ s) n t h d = d
-due-last Rows (b ∷ s) n t h d = d
+due-last (Header desk) (b ∷ s) n t h d = d
+due-last (Rows k) (b ∷ s) n t h d = d
 due-last Stopped (b ∷ s) n t h d = d
 
 -- ---- parts of a chunk and of a buffer

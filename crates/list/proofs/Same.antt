@@ -8,7 +8,7 @@ use lib.Dec.{eqb}
 use lib.ListN.{length, getD, drop, drop-of-length-le}
 use lib.Seq.{drop-cons}
 use borrow.Author.Tests.{eq-eqb, ne-eqb}
-use Rattle.list.specs.Lists.{same}
+use Rattle.list.specs.Kinds.{same}
 
 -- bytes of two lengths are not the same
 pub same-not : (s t : List ℕ) → (length s ≡ length t → ⊥) → same s t ≡ false

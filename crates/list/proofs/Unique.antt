@@ -1,6 +1,7 @@
 -- A list has one answer, and feeding and ending promise one outcome.
 use mathlib.Core.Path.{_≡_, sym, ap, ap₂, _∙_, subst}
 use mathlib.Core.Bool.{true}
+use mathlib.Core.Option.{Option, none, some}
 use mathlib.Core.List.{List, [], _∷_, _++_}
 use Prim.Native.Nat.{ℕ, suc, _+_, _-_, _≤_, _<_}
 use native.Mathlib.Decide.{decLt}
@@ -9,36 +10,41 @@ use lib.Dec.{leb}
 use lib.ListN.{length, getD, take, drop}
 use lib.Seq.{take-add, drop-cons}
 use Rattle.whole.proofs.Choice.{if-both}
+use Rattle.line.specs.Kinds.{outputHeader}
+use Rattle.list.specs.declared.kinds.Kind.{Kind}
+use Rattle.list.specs.declared.kinds.Desk.{Desk}
 use Rattle.line.specs.declared.lent.LineAnswer.{LineAnswer}
 use Rattle.line.specs.Lent.{Placed}
 use Rattle.list.specs.declared.state.State.{State}
 use Rattle.list.specs.declared.feeding.Fed.{Fed}
 use Rattle.lines.specs.Lines.{allButLast, endsLine, ended, begun, lines}
-use Rattle.list.specs.Lists.{same, inputHeader, outputHeader, RowsAnswered, HeaderAnswered, LinesAnswered}
+use Rattle.list.specs.Kinds.{kindOf, headed}
+use Rattle.list.specs.Lists.{RowsAnswered, HeaderAnswered, LinesAnswered}
 use Rattle.lines.specs.Held.{capped}
 use Rattle.list.specs.Feeding.{Due, DueToAll, lineOf, codeOf, FedAs}
 use Rattle.list.specs.Promised.{OneList, OneFeeding, OneEnding}
 use Rattle.lines.proofs.Lines.{ended-append}
 use Rattle.lines.proofs.Capped.{capped-ends}
 use Rattle.list.proofs.Capped.{capped-front}
-use Rattle.line.proofs.Unique.{one-answer}
+use Rattle.list.proofs.OfKinds.{one-answer-of}
 use Rattle.list.proofs.Dues.{due-within, all-unique, at-end-unique}
 
 -- ---- lists
-rows-unique : (others : List (List ℕ)) (o o′ : List ℕ) → RowsAnswered others o → RowsAnswered others o′ → o ≡ o′
-rows-unique [] o o′ h k = h ∙ sym k
-rows-unique (line ∷ others) o o′ (n, t, rest, h, more, e) (n′, t′, rest′, h′, more′, e′) =
-    e ∙ ap₂ (λ (x : List ℕ) (y : List ℕ). x ++ y) (one-answer line n n′ t t′ h h′ .1) (rows-unique others rest rest′ more more′) ∙ sym e′
+rows-unique : (k : Kind) (others : List (List ℕ)) (o o′ : List ℕ) → RowsAnswered k others o → RowsAnswered k others o′ → o ≡ o′
+rows-unique k [] o o′ h i = h ∙ sym i
+rows-unique k (line ∷ others) o o′ (n, t, rest, h, more, e) (n′, t′, rest′, h′, more′, e′) =
+    e ∙ ap₂ (λ (x : List ℕ) (y : List ℕ). x ++ y) (one-answer-of k line n n′ t t′ h h′ .1) (rows-unique k others rest rest′ more more′) ∙ sym e′
 
-header-unique : (others : List (List ℕ)) (o o′ : List ℕ) → HeaderAnswered others o → HeaderAnswered others o′ → o ≡ o′
-header-unique others o o′ (rest, h, e) (rest′, h′, e′) = e ∙ ap (λ (x : List ℕ). outputHeader ++ x) (rows-unique others rest rest′ h h′) ∙ sym e′
+header-unique : (desk : Desk) (k : Option Kind) (others : List (List ℕ)) (o o′ : List ℕ) → HeaderAnswered desk k others o → HeaderAnswered desk k others o′ → o ≡ o′
+header-unique desk none others o o′ h i = h ∙ sym i
+header-unique desk (some k) others o o′ (rest, h, e) (rest′, h′, e′) = e ∙ ap (λ (x : List ℕ). outputHeader (kindOf k) ++ x) (rows-unique k others rest rest′ h h′) ∙ sym e′
 
-lines-unique : (ls : List (List ℕ)) (o o′ : List ℕ) → LinesAnswered ls o → LinesAnswered ls o′ → o ≡ o′
-lines-unique [] o o′ h k = h ∙ sym k
-lines-unique (header ∷ others) o o′ h k = if-both (same header inputHeader) h k (header-unique others o o′) (λ x y. x ∙ sym y)
+lines-unique : (desk : Desk) (ls : List (List ℕ)) (o o′ : List ℕ) → LinesAnswered desk ls o → LinesAnswered desk ls o′ → o ≡ o′
+lines-unique desk [] o o′ h k = h ∙ sym k
+lines-unique desk (header ∷ others) o o′ h k = header-unique desk (headed desk header) others o o′ h k
 
 pub one-list : OneList
-one-list input output output′ h k = lines-unique (lines input) output output′ h k
+one-list desk input output output′ h k = lines-unique desk (lines input) output output′ h k
 
 -- ---- the end of the input
 placed-unique : (n : ℕ) (t out out′ out″ : List ℕ) (x y : LineAnswer) → Placed n t out out′ x → Placed n t out out″ y → (out′ ≡ out″) × (x ≡ y)

@@ -21,9 +21,13 @@ use Rattle.deviation.specs.Working.{plainDeviation, hasDTerm, z, dTerm, deviati
 use Rattle.reading.specs.Reading.{readGiven}
 use Rattle.reading.proofs.Tests.{step-passes}
 use Rattle.law.specs.Names.{spelled}
-use Rattle.line.specs.Decimal.{decimal}
-use Rattle.line.specs.Answer.{Answered}
-use Rattle.line.proofs.Decimals.{decimal-one, decimal-more}
+use Rattle.text.specs.Decimal.{decimal}
+use Rattle.text.specs.Columns.{wellFormed, faultOf, values}
+use Rattle.line.specs.Kinds.{Answered}
+use Rattle.line.specs.Readings.{readings}
+use Rattle.text.proofs.Decimals.{decimal-one, decimal-more}
+use Rattle.list.specs.declared.kinds.Desk.the-variants.{Launch, Bench}
+use Rattle.list.specs.Kinds.{headed}
 use Rattle.list.specs.Lists.{ListAnswered}
 
 -- the certificates of zeros
@@ -63,22 +67,22 @@ digits-of-F1 = rw (decimal-more 1_000_000 (omega arith), decimal-more 100_000 (o
 digits-of-F2 : decimal 4_810_000 ≡ ascii "4810000"
 digits-of-F2 = rw (decimal-more 4_810_000 (omega arith), decimal-more 481_000 (omega arith), decimal-more 48_100 (omega arith), decimal-more 4_810 (omega arith), decimal-more 481 (omega arith), decimal-more 48 (omega arith), decimal-one 4 (omega arith))
 
-answer-F1 : Answered F1 0 (ascii "F1,curve,1000000,0\r\n")
-unfolding F1
+answer-F1 : Answered readings F1 0 (ascii "F1,curve,1000000,0\r\n")
+unfolding F1 wellFormed faultOf values
 answer-F1 = (at Curve (pos 1_000_000), read-F1, refl, rw (digits-of-F1, decimal-one 0 (omega arith)))
 
-answer-F2 : Answered F2 0 (ascii "F2,ag,4810000,0\r\n")
-unfolding F2
+answer-F2 : Answered readings F2 0 (ascii "F2,ag,4810000,0\r\n")
+unfolding F2 wellFormed faultOf values
 answer-F2 = (at (Scale Ag) (pos 4_810_000), read-F2, refl, rw (digits-of-F2, decimal-one 0 (omega arith)))
 
-answer-F3 : Answered F3 9 (ascii "F3,zn,,9\r\n")
-unfolding F3
+answer-F3 : Answered readings F3 9 (ascii "F3,zn,,9\r\n")
+unfolding F3 wellFormed faultOf values
 answer-F3 = (refused noStep 9, read-F3, refl, rw (decimal-one 9 (omega arith)))
 
-pub example : ListAnswered
+pub example : ListAnswered Launch
     (ascii "id,law,r,r0,a,b,c,d,wal\r\nF1,curve,138505500000,100000000000,0,0,0,0,0\r\nF2,ag,69539313500,25000000000,0,0,0,0,3376008600\r\nF3,zn,69539313500,25000000000,0,0,0,0,0\r\n")
     (ascii "id,law,t,code\r\nF1,curve,1000000,0\r\nF2,ag,4810000,0\r\nF3,zn,,9\r\n")
-unfolding F1 F2 F3
+unfolding F1 F2 F3 headed
 example = (
   ascii "F1,curve,1000000,0\r\nF2,ag,4810000,0\r\nF3,zn,,9\r\n",
   (
@@ -93,12 +97,36 @@ example = (
 )
 
 -- no input at all, and a byte order mark before the header
-pub empty : ListAnswered [] (ascii "id,law,t,code\r\n?,?,,10\r\n")
+pub empty : ListAnswered Launch [] (ascii "id,law,t,code\r\n?,?,,10\r\n")
+unfolding decimal
 empty = refl
 
-pub marked : ListAnswered (239 ∷ 187 ∷ 191 ∷ ascii "id,law,r,r0,a,b,c,d,wal\r\n") (ascii "id,law,t,code\r\n?,?,,10\r\n")
+pub marked : ListAnswered Launch (239 ∷ 187 ∷ 191 ∷ ascii "id,law,r,r0,a,b,c,d,wal\r\n") (ascii "id,law,t,code\r\n?,?,,10\r\n")
+unfolding decimal headed
 marked = refl
 
 -- the header may be the last line
-pub header-alone : ListAnswered (ascii "id,law,r,r0,a,b,c,d,wal") (ascii "id,law,t,code\r\n")
+pub header-alone : ListAnswered Launch (ascii "id,law,r,r0,a,b,c,d,wal") (ascii "id,law,t,code\r\n")
+unfolding headed
 header-alone = ([], refl, refl)
+
+-- the bench's headers, each by itself, and the launch's, which the bench does not know
+pub of-records : ListAnswered Bench (ascii "id,subrange,hg,ga,in,sn,zn,al,ag\r\n") (ascii "id,law,a,b,c,d,wal,code\r\n")
+unfolding headed
+of-records = ([], refl, refl)
+
+pub of-resistances : ListAnswered Bench (ascii "id,subrange,hg,hg0,ga,ga0,in,in0,sn,sn0,zn,zn0,al,al0,ag,ag0\r\n") (ascii "id,law,a,b,c,d,wal,code\r\n")
+unfolding headed
+of-resistances = ([], refl, refl)
+
+pub of-steps : ListAnswered Bench (ascii "id,law,t,a,b,c,d,wal\r\n") (ascii "id,law,w,code\r\n")
+unfolding headed
+of-steps = ([], refl, refl)
+
+pub of-tolerances : ListAnswered Bench (ascii "id,class,t,r,r0\r\n") (ascii "id,class,result,error,code\r\n")
+unfolding headed
+of-tolerances = ([], refl, refl)
+
+pub of-the-launch : ListAnswered Bench (ascii "id,law,r,r0,a,b,c,d,wal\r\n") (ascii "id,law,a,b,c,d,wal,code\r\n?,?,,,,,,10\r\n")
+unfolding decimal headed
+of-the-launch = refl

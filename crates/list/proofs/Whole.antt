@@ -1,6 +1,6 @@
 -- However a list is cut, all that is written is its answer; and a buffer that holds any answer line is enough.
 use mathlib.Core.Path.{_≡_, refl, sym, ap, ap₂, _∙_, subst}
-use mathlib.Core.Bool.{Bool, true, false}
+use mathlib.Core.Option.{Option, none, some}
 use mathlib.Core.List.{List, [], _∷_, _++_, append-assoc, append-nil}
 use Prim.Native.Nat.{ℕ}
 use native.Mathlib.Decide.{decLt}
@@ -9,20 +9,25 @@ use lib.Dec.{leb}
 use lib.ListN.{length, take, drop, take-append-drop}
 use lib.Seq.{take-append-seam}
 use borrow.Author.Tests.{le-leb}
-use Rattle.whole.specs.Choice.{if_then_else_}
 use Rattle.whole.proofs.Choice.{if-cases}
 use Rattle.quantity.specs.Refusals.{numberOf}
-use Rattle.quantity.specs.declared.refusal.Refusal.the-variants.{IllFormed, BufferShort}
+use Rattle.quantity.specs.declared.refusal.Refusal.the-variants.{BufferShort}
 use Rattle.line.specs.declared.lent.LineAnswer.{LineAnswer}
 use Rattle.line.specs.Lent.{Placed}
+use Rattle.line.specs.Kinds.{outputHeader}
+use Rattle.list.specs.declared.kinds.Kind.{Kind}
+use Rattle.list.specs.declared.kinds.Desk.{Desk}
+use Rattle.list.specs.declared.kinds.Kind.the-variants as kind
+use Rattle.list.specs.declared.kinds.Desk.the-variants.{Launch, Bench}
 use Rattle.list.specs.declared.state.Stage.{Stage}
 use Rattle.list.specs.declared.state.Stage.the-variants.{Header, Rows, Stopped}
 use Rattle.list.specs.declared.state.State.{State}
 use Rattle.lines.specs.Lines.{allButLast, ended, begun, lastLine}
-use Rattle.list.specs.Lists.{same, inputHeader, outputHeader, wrongHeader, RowsAnswered, HeaderAnswered, LinesAnswered, ListAnswered}
+use Rattle.list.specs.Kinds.{kindOf, headed, wrongHeader}
+use Rattle.list.specs.Lists.{RowsAnswered, HeaderAnswered, LinesAnswered, ListAnswered}
 use Rattle.lines.specs.Held.{capped}
-use Rattle.list.specs.Feeding.{Due, next, DueToAll, DueAtEnd, lineOf, Run, finish, feed, stop}
-use Rattle.list.specs.Promised.{EveryCutting, GoesOn, EndFits}
+use Rattle.list.specs.Feeding.{HeaderDue, afterHeader, Due, DueToAll, DueAtEnd, lineOf, Run, finish, feed, stop}
+use Rattle.list.specs.Promised.{EveryCutting, GoesOn, EndFits, EnoughRoom}
 use Rattle.lines.proofs.Lines.{ended-append, begun-append}
 use Rattle.lines.proofs.Capped.{capped-alike, alike-begun}
 use Rattle.list.proofs.Capped.{alike-at-end, capped-all}
@@ -96,15 +101,15 @@ run-says {st} (stop unread is) =
 
 -- ---- what was due is the answer to the list
 -- to rows, the last of which may be cut short
-rows-said : (ls : List (List ℕ)) (line text last : List ℕ) (n : ℕ) (later : Stage) → DueToAll Rows ls text later → DueAtEnd later line n last → RowsAnswered (ls ++ lastLine line) (text ++ last)
-rows-said [] line text last n later (e, f) k =
+rows-said : (kind : Kind) (ls : List (List ℕ)) (line text last : List ℕ) (n : ℕ) (later : Stage) → DueToAll (Rows kind) ls text later → DueAtEnd later line n last → RowsAnswered kind (ls ++ lastLine line) (text ++ last)
+rows-said kind [] line text last n later (e, f) k =
     rw e (ending line (subst (λ (g : Stage). DueAtEnd g line n last) f k))
   where
-    ending : (line : List ℕ) → DueAtEnd Rows line n last → RowsAnswered (lastLine line) last
+    ending : (line : List ℕ) → DueAtEnd (Rows kind) line n last → RowsAnswered kind (lastLine line) last
     ending [] (e, f) = f
     ending (b ∷ s) h = (n, last, [], h, refl, sym (append-nil last))
-rows-said (row ∷ ls) line text last n later (m, first, rest, due, more, e) k =
-    (m, first, rest ++ last, due, rows-said ls line rest last n later more k, ap (λ (x : List ℕ). x ++ last) e ∙ append-assoc first rest last)
+rows-said kind (row ∷ ls) line text last n later (m, first, rest, due, more, e) k =
+    (m, first, rest ++ last, due, rows-said kind ls line rest last n later more k, ap (λ (x : List ℕ). x ++ last) e ∙ append-assoc first rest last)
 
 -- nothing after a wrong header
 nothing-said : (ls : List (List ℕ)) (line text last : List ℕ) (n : ℕ) (later : Stage) → DueToAll Stopped ls text later → DueAtEnd later line n last → text ++ last ≡ []
@@ -117,40 +122,38 @@ nothing-said [] line text last n later (e, f) k =
 nothing-said (row ∷ ls) line text last n later (m, first, rest, due, more, e) k =
     ap (λ (x : List ℕ). x ++ last) (e ∙ ap (λ (x : List ℕ). x ++ rest) (due .1)) ∙ nothing-said ls line rest last n later more k
 
-header-said : (header text last : List ℕ) (ls : List (List ℕ)) (line first rest : List ℕ) (m n : ℕ) (later : Stage) → Due Header header m first → DueToAll (next Header header) ls rest later
-    → DueAtEnd later line n last → text ≡ first ++ rest → LinesAnswered (header ∷ (ls ++ lastLine line)) (text ++ last)
-header-said header text last ls line first rest m n later due more k e =
-    by (same header inputHeader) due more
-  where
-    all : (start : List ℕ) → first ≡ start → text ++ last ≡ start ++ (rest ++ last)
-    all start f = ap (λ (x : List ℕ). x ++ last) (e ∙ ap (λ (x : List ℕ). x ++ rest) f) ∙ append-assoc start rest last
+header-said : (desk : Desk) (k : Option Kind) (text last : List ℕ) (ls : List (List ℕ)) (line first rest : List ℕ) (m n : ℕ) (later : Stage) → HeaderDue desk k m first
+    → DueToAll (afterHeader k) ls rest later → DueAtEnd later line n last → text ≡ first ++ rest → HeaderAnswered desk k (ls ++ lastLine line) (text ++ last)
+header-said desk none text last ls line first rest m n later due more k e =
+    ap (λ (x : List ℕ). x ++ last) (e ∙ ap (λ (x : List ℕ). x ++ rest) (due .1)) ∙ append-assoc (wrongHeader desk) rest last
+    ∙ ap (λ (x : List ℕ). wrongHeader desk ++ x) (nothing-said ls line rest last n later more k) ∙ append-nil (wrongHeader desk)
+header-said desk (some kind) text last ls line first rest m n later due more k e =
+    let start = outputHeader (kindOf kind) in
+    (rest ++ last, rows-said kind ls line rest last n later more k, ap (λ (x : List ℕ). x ++ last) (e ∙ ap (λ (x : List ℕ). x ++ rest) (due .1)) ∙ append-assoc start rest last)
 
-    by : (t : Bool) → (if t then (m ≡ 0) × (first ≡ outputHeader) else (m ≡ numberOf IllFormed) × (first ≡ wrongHeader)) → DueToAll (if t then Rows else Stopped) ls rest later
-        → if t then HeaderAnswered (ls ++ lastLine line) (text ++ last) else text ++ last ≡ wrongHeader
-    by true due more = (rest ++ last, rows-said ls line rest last n later more k, all outputHeader (due .1))
-    by false due more = all wrongHeader (due .1) ∙ ap (λ (x : List ℕ). wrongHeader ++ x) (nothing-said ls line rest last n later more k) ∙ append-nil wrongHeader
+-- a header that is the last line
+header-last : (desk : Desk) (k : Option Kind) (n : ℕ) (last : List ℕ) → HeaderDue desk k n last → HeaderAnswered desk k [] last
+header-last desk none n last (e, f) = f
+header-last desk (some kind) n last (e, f) = ([], refl, f ∙ sym (append-nil (outputHeader (kindOf kind))))
 
-lines-said : (ls : List (List ℕ)) (line text last : List ℕ) (n : ℕ) (later : Stage) → DueToAll Header ls text later → DueAtEnd later line n last → LinesAnswered (ls ++ lastLine line) (text ++ last)
-lines-said [] line text last n later (e, f) k = rw e (ending line (subst (λ (g : Stage). DueAtEnd g line n last) f k))
+lines-said : (desk : Desk) (ls : List (List ℕ)) (line text last : List ℕ) (n : ℕ) (later : Stage) → DueToAll (Header desk) ls text later → DueAtEnd later line n last
+    → LinesAnswered desk (ls ++ lastLine line) (text ++ last)
+lines-said desk [] line text last n later (e, f) k = rw e (ending line (subst (λ (g : Stage). DueAtEnd g line n last) f k))
   where
-    ending : (line : List ℕ) → DueAtEnd Header line n last → LinesAnswered (lastLine line) last
+    ending : (line : List ℕ) → DueAtEnd (Header desk) line n last → LinesAnswered desk (lastLine line) last
     ending [] (e, f) = f
-    ending (b ∷ s) h = by (same (b ∷ s) inputHeader) h
-      where
-        by : (t : Bool) → (if t then (n ≡ 0) × (last ≡ outputHeader) else (n ≡ numberOf IllFormed) × (last ≡ wrongHeader)) → if t then HeaderAnswered [] last else last ≡ wrongHeader
-        by true (e, f) = ([], refl, f ∙ sym (append-nil outputHeader))
-        by false (e, f) = f
-lines-said (header ∷ ls) line text last n later (m, first, rest, due, more, e) k = header-said header text last ls line first rest m n later due more k e
+    ending (b ∷ s) h = header-last desk (headed desk (b ∷ s)) n last h
+lines-said desk (header ∷ ls) line text last n later (m, first, rest, due, more, e) k = header-said desk (headed desk header) text last ls line first rest m n later due more k e
 
 pub every-cutting : EveryCutting
-every-cutting st input output (count, stage) run =
+every-cutting desk st input output (count, stage) run =
     let said = subst (λ (l : List ℕ). Said (st .stage) l input output) (ap (λ (n : ℕ). take n (st .held)) count) (run-says run) in
     let s = subst (λ (g : Stage). Said g [] input output) stage said in
-    subst (ListAnswered input) (sym (s .both)) (lines-said (ended [] input) (begun [] input) (s .text) (s .last) (s .number) (s .later) (s .due) (s .at-end))
+    subst (ListAnswered desk input) (sym (s .both)) (lines-said desk (ended [] input) (begun [] input) (s .text) (s .last) (s .number) (s .later) (s .due) (s .at-end))
 
 -- ---- buffers
 pub goes-on : GoesOn
-goes-on st chunk out out′ x f enough some =
+goes-on st chunk out out′ x f enough more =
     elim (decLt 0 (x .used)) [
       | yes h ↦ h
       | no h ↦
@@ -158,7 +161,8 @@ goes-on st chunk out out′ x f enough some =
           let full = f .full (omega arith) in
           let nothing : DueToAll (st .stage) [] (f .text) (x .state .stage) = subst (λ (n : ℕ). DueToAll (st .stage) (ended (lineOf st) (take n chunk)) (f .text) (x .state .stage)) none (f .due) in
           let wrote : x .wrote ≡ 0 = f .wrote ∙ ap length (nothing .0) in
-          absurd (omega (arith, wrote, full .no-room, due-small (x .state .stage) (allButLast (lineOf (x .state))) (full .number) (full .text) (full .due) .text))
+          let due = subst (λ (g : Stage). Due g (allButLast (lineOf (x .state))) (full .number) (full .text)) (nothing .1) (full .due) in
+          absurd (omega (arith, wrote, full .no-room, due-small (st .stage) (allButLast (lineOf (x .state))) (full .number) (full .text) due .text))
     ]
 
 pub end-fits : EndFits
@@ -167,3 +171,13 @@ end-fits st out out′ x (n, t, due, placed) enough e =
     let written : (x ≡ record { code = n; wrote = length t }) × (out′ ≡ t ++ drop (length t) out) = rw (le-leb (length t) (length out) (omega (arith, small .text))) at placed in
     let code : x .code ≡ n = ap (λ (x : LineAnswer). x .code) (written .0) in
     omega (arith, small .number)
+
+pub enough-room : EnoughRoom
+enough-room (Header Launch) = omega arith
+enough-room (Header Bench) = omega arith
+enough-room (Rows kind.Readings) = omega arith
+enough-room (Rows kind.Records) = omega arith
+enough-room (Rows kind.Resistances) = omega arith
+enough-room (Rows kind.Steps) = omega arith
+enough-room (Rows kind.Tolerances) = omega arith
+enough-room Stopped = omega arith

@@ -2,6 +2,7 @@
 use mathlib.Core.Path.{_≡_}
 use mathlib.Core.Bool.{true}
 use mathlib.Core.List.{List, [], _∷_, _++_}
+use mathlib.Core.Option.{Option, none, some}
 use Prim.Native.Nat.{ℕ, _+_, _≤_, _<_}
 use lib.Dec.{ltb}
 use lib.ListN.{length, getD, take, drop}
@@ -9,28 +10,37 @@ use Rattle.whole.specs.Choice.{if_then_else_}
 use Rattle.quantity.specs.Refusals.{numberOf}
 use Rattle.quantity.specs.declared.refusal.Refusal.the-variants.{IllFormed, BufferShort}
 use Rattle.line.specs.declared.lent.LineAnswer.{LineAnswer}
-use Rattle.line.specs.Answer.{Answered}
+use Rattle.line.specs.Kinds.{outputHeader, Answered}
 use Rattle.line.specs.Lent.{Placed}
+use Rattle.list.specs.declared.kinds.Kind.{Kind}
+use Rattle.list.specs.declared.kinds.Desk.{Desk}
 use Rattle.list.specs.declared.state.Stage.{Stage}
 use Rattle.list.specs.declared.state.Stage.the-variants.{Header, Rows, Stopped}
 use Rattle.list.specs.declared.state.State.{State}
 use Rattle.list.specs.declared.feeding.Fed.{Fed}
 use Rattle.lines.specs.Lines.{allButLast, endsLine, ended, begun}
 use Rattle.lines.specs.Held.{capped}
-use Rattle.list.specs.Lists.{same, inputHeader, outputHeader, wrongHeader}
+use Rattle.list.specs.Kinds.{kindOf, headed, wrongHeader}
+
+-- The number and the text that are due to a header: by the kind of list that it names.
+abbrev pub HeaderDue : Desk → Option Kind → ℕ → List ℕ → Type 0
+HeaderDue desk none number text = (number ≡ numberOf IllFormed) × (text ≡ wrongHeader desk)
+HeaderDue desk (some k) number text = (number ≡ 0) × (text ≡ outputHeader (kindOf k))
 
 -- The number and the text that are due to a line: as the header, after the header, and after a wrong one, where nothing is read any more.
 abbrev pub Due : Stage → List ℕ → ℕ → List ℕ → Type 0
-Due Header line number text =
-    if same line inputHeader then (number ≡ 0) × (text ≡ outputHeader)
-    else (number ≡ numberOf IllFormed) × (text ≡ wrongHeader)
-Due Rows line number text = Answered line number text
+Due (Header desk) line number text = HeaderDue desk (headed desk line) number text
+Due (Rows k) line number text = Answered (kindOf k) line number text
 Due Stopped line number text = (number ≡ 0) × (text ≡ [])
 
 -- What comes after a line.
+abbrev pub afterHeader : Option Kind → Stage
+afterHeader none = Stopped
+afterHeader (some k) = Rows k
+
 abbrev pub next : Stage → List ℕ → Stage
-next Header line = if same line inputHeader then Rows else Stopped
-next Rows line = Rows
+next (Header desk) line = afterHeader (headed desk line)
+next (Rows k) line = Rows k
 next Stopped line = Stopped
 
 -- The text that is due to lines one after the other, and the stage after them.
@@ -41,8 +51,8 @@ DueToAll stage (line ∷ others) text later =
 
 -- What is due to no line: before the header that is a wrong header.
 abbrev pub DueToNone : Stage → ℕ → List ℕ → Type 0
-DueToNone Header number text = (number ≡ numberOf IllFormed) × (text ≡ wrongHeader)
-DueToNone Rows number text = (number ≡ 0) × (text ≡ [])
+DueToNone (Header desk) number text = (number ≡ numberOf IllFormed) × (text ≡ wrongHeader desk)
+DueToNone (Rows k) number text = (number ≡ 0) × (text ≡ [])
 DueToNone Stopped number text = (number ≡ 0) × (text ≡ [])
 
 -- What is due where the input ends. The partial line is the last line; an empty one is no line.

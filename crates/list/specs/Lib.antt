@@ -1,4 +1,5 @@
 -- The definitions about a list.
+pub mod Kinds
 pub mod Lists
 pub mod Feeding
 pub mod Replies

@@ -1,44 +1,28 @@
 -- The answer to a list: from all bytes of the input to all bytes of the output.
 use mathlib.Core.Path.{_≡_}
-use mathlib.Core.Bool.{Bool, true, false, _&&_}
 use mathlib.Core.List.{List, [], _∷_, _++_}
+use mathlib.Core.Option.{Option, none, some}
 use Prim.Native.Nat.{ℕ}
-use lib.Dec.{eqb}
-use Rattle.whole.specs.Choice.{if_then_else_}
-use Rattle.whole.specs.Text.{ascii}
-use Rattle.line.specs.Answer.{Answered, illFormedLine}
 use Rattle.lines.specs.Lines.{lines}
-
-abbrev pub inputHeader : List ℕ
-inputHeader = ascii "id,law,r,r0,a,b,c,d,wal"
-
-abbrev pub outputHeader : List ℕ
-outputHeader = ascii "id,law,t,code\r\n"
-
--- The same bytes.
-abbrev pub same : List ℕ → List ℕ → Bool
-same [] [] = true
-same [] (b ∷ t) = false
-same (a ∷ s) [] = false
-same (a ∷ s) (b ∷ t) = eqb a b && same s t
+use Rattle.line.specs.Kinds.{outputHeader, Answered}
+use Rattle.list.specs.declared.kinds.Kind.{Kind}
+use Rattle.list.specs.declared.kinds.Desk.{Desk}
+use Rattle.list.specs.Kinds.{kindOf, headed, wrongHeader}
 
 -- To each line after the header, its answer.
-abbrev pub RowsAnswered : List (List ℕ) → List ℕ → Type 0
-RowsAnswered [] output = output ≡ []
-RowsAnswered (line ∷ others) output =
-    (number : ℕ) × (text : List ℕ) × (rest : List ℕ) × Answered line number text × RowsAnswered others rest × (output ≡ text ++ rest)
+abbrev pub RowsAnswered : Kind → List (List ℕ) → List ℕ → Type 0
+RowsAnswered k [] output = output ≡ []
+RowsAnswered k (line ∷ others) output =
+    (number : ℕ) × (text : List ℕ) × (rest : List ℕ) × Answered (kindOf k) line number text × RowsAnswered k others rest × (output ≡ text ++ rest)
 
--- To the right header, the output's header, and then the answers to the other lines.
-abbrev pub HeaderAnswered : List (List ℕ) → List ℕ → Type 0
-HeaderAnswered others output = (rest : List ℕ) × RowsAnswered others rest × (output ≡ outputHeader ++ rest)
+-- To the header of a kind, its output's header, and then the answers to the other lines.
+abbrev pub HeaderAnswered : Desk → Option Kind → List (List ℕ) → List ℕ → Type 0
+HeaderAnswered desk none others output = output ≡ wrongHeader desk
+HeaderAnswered desk (some k) others output = (rest : List ℕ) × RowsAnswered k others rest × (output ≡ outputHeader (kindOf k) ++ rest)
 
--- To a wrong header, none at all included, the output's header and one ill-formed line.
-abbrev pub wrongHeader : List ℕ
-wrongHeader = outputHeader ++ illFormedLine
+abbrev pub LinesAnswered : Desk → List (List ℕ) → List ℕ → Type 0
+LinesAnswered desk [] output = output ≡ wrongHeader desk
+LinesAnswered desk (header ∷ others) output = HeaderAnswered desk (headed desk header) others output
 
-abbrev pub LinesAnswered : List (List ℕ) → List ℕ → Type 0
-LinesAnswered [] output = output ≡ wrongHeader
-LinesAnswered (header ∷ others) output = if same header inputHeader then HeaderAnswered others output else output ≡ wrongHeader
-
-abbrev pub ListAnswered : List ℕ → List ℕ → Type 0
-ListAnswered input output = LinesAnswered (lines input) output
+abbrev pub ListAnswered : Desk → List ℕ → List ℕ → Type 0
+ListAnswered desk input output = LinesAnswered desk (lines input) output

@@ -7,12 +7,16 @@ ghost use lib.ListN.{take};
 ghost use Rattle.whole.specs.Choice.{if_then_else_};
 ghost use Rattle.quantity.specs.Refusals.{numberOf};
 ghost use Rattle.quantity.specs.declared.refusal.Refusal.the-variants.{IllFormed};
-ghost use Rattle.line.specs.Lent.{PlacedAs};
-ghost use Rattle.list.specs.Lists.{wrongHeader};
+ghost use Rattle.line.specs.Kinds.{outputHeader};
+ghost use Rattle.line.specs.Lent.{PlacedAs, AnsweredAs};
+ghost use Rattle.list.specs.Kinds.{kindOf, wrongHeader};
 ghost use Rattle.lines.specs.Held.{mostHeld};
 ghost use Rattle.list.specs.Feeding.{lineOf, FedAs, EndedWith, EndedAs};
 ghost use Rattle.list.specs.Replies.{RepliedAs};
-use crate::header;
+use crate::kinds::Desk;
+use crate::kinds::Headed;
+use crate::kinds::Kind;
+use crate::kinds::headed_by;
 use crate::state::Stage;
 use crate::state::State;
 use line::LineAnswer;
@@ -35,25 +39,53 @@ pub struct Reply {
     pub stage: Stage,
 }
 
-fn wrong_header(out: &mut [u8]) -> Placing
-    ensures { λ r. ⌜ PlacedAs (numberOf IllFormed) wrongHeader (now (out .entry)) (now (out .exit)) r ⌝ }
+fn wrong_header(desk: Desk, out: &mut [u8]) -> Placing
+    ensures { λ r. ⌜ PlacedAs (numberOf IllFormed) (wrongHeader desk) (now (out .entry)) (now (out .exit)) r ⌝ }
 {
     let number = Refusal::IllFormed.number();
-    line::place(number, b"id,law,t,code\r\n?,?,,10\r\n", out)
+    match desk {
+        Desk::Launch => line::place(number, b"id,law,t,code\r\n?,?,,10\r\n", out),
+        Desk::Bench => line::place(number, b"id,law,a,b,c,d,wal,code\r\n?,?,,,,,,10\r\n", out),
+    }
 }
 
-fn header_reply(line: &[u8], out: &mut [u8]) -> Reply
-    ensures { λ r. ⌜ RepliedAs Stage.Header (now (line .entry)) (now (out .entry)) (now (out .exit)) r ⌝ }
+// The header of the answer to a list of a kind.
+fn answer_header(kind: Kind, out: &mut [u8]) -> Placing
+    ensures { λ r. ⌜ PlacedAs 0 (outputHeader (kindOf kind)) (now (out .entry)) (now (out .exit)) r ⌝ }
 {
-    if header::is_header(line) {
-        return Reply {
-            placing: line::place(0, b"id,law,t,code\r\n", out),
-            stage: Stage::Rows,
-        };
+    match kind {
+        Kind::Readings => line::place(0, b"id,law,t,code\r\n", out),
+        Kind::Records => line::place(0, b"id,law,a,b,c,d,wal,code\r\n", out),
+        Kind::Resistances => line::place(0, b"id,law,a,b,c,d,wal,code\r\n", out),
+        Kind::Steps => line::place(0, b"id,law,w,code\r\n", out),
+        Kind::Tolerances => line::place(0, b"id,class,result,error,code\r\n", out),
     }
-    Reply {
-        placing: wrong_header(out),
-        stage: Stage::Stopped,
+}
+
+fn header_reply(desk: Desk, line: &[u8], out: &mut [u8]) -> Reply
+    ensures { λ r. ⌜ RepliedAs (Stage.Header desk) (now (line .entry)) (now (out .entry)) (now (out .exit)) r ⌝ }
+{
+    match headed_by(desk, line) {
+        Headed::As(kind) => Reply {
+            placing: answer_header(kind, out),
+            stage: Stage::Rows(kind),
+        },
+        Headed::Unknown => Reply {
+            placing: wrong_header(desk, out),
+            stage: Stage::Stopped,
+        },
+    }
+}
+
+fn place_row(kind: Kind, line: &[u8], out: &mut [u8]) -> Placing
+    ensures { λ r. ⌜ AnsweredAs (kindOf kind) (now (line .entry)) (now (out .entry)) (now (out .exit)) r ⌝ }
+{
+    match kind {
+        Kind::Readings => line::place_reading(line, out),
+        Kind::Records => bench::place_record(line, out),
+        Kind::Resistances => bench::place_resistances(line, out),
+        Kind::Steps => bench::place_forward(line, out),
+        Kind::Tolerances => bench::place_tolerance(line, out),
     }
 }
 
@@ -61,10 +93,10 @@ fn reply_to(stage: Stage, line: &[u8], out: &mut [u8]) -> Reply
     ensures { λ r. ⌜ RepliedAs stage (now (line .entry)) (now (out .entry)) (now (out .exit)) r ⌝ }
 {
     match stage {
-        Stage::Header => header_reply(line, out),
-        Stage::Rows => Reply {
-            placing: line::place_answer(line, out),
-            stage: Stage::Rows,
+        Stage::Header(desk) => header_reply(desk, line, out),
+        Stage::Rows(kind) => Reply {
+            placing: place_row(kind, line, out),
+            stage: Stage::Rows(kind),
         },
         Stage::Stopped => Reply {
             placing: Placing {
@@ -196,11 +228,11 @@ fn nothing_begun(stage: Stage, out: &mut [u8]) -> LineAnswer
     ensures { λ r. ⌜ EndedWith stage [] (now (out .entry)) (now (out .exit)) r ⌝ }
 {
     match stage {
-        Stage::Header => {
-            let x = wrong_header(out);
+        Stage::Header(desk) => {
+            let x = wrong_header(desk, out);
             x.answer
         }
-        Stage::Rows => LineAnswer { code: 0, wrote: 0 },
+        Stage::Rows(_) => LineAnswer { code: 0, wrote: 0 },
         Stage::Stopped => LineAnswer { code: 0, wrote: 0 },
     }
 }

@@ -1,8 +1,8 @@
-// The header of the input.
+// Two texts compared.
 ghost use mathlib.Core.Path.{_≡_};
-ghost use Rattle.list.specs.Lists.{same, inputHeader};
+ghost use Rattle.list.specs.Kinds.{same};
 
-fn same_bytes(a: &[u8], b: &[u8]) -> bool
+pub fn same_bytes(a: &[u8], b: &[u8]) -> bool
     ensures { λ r. ⌜ r ≡ same (now (a .entry)) (now (b .entry)) ⌝ }
 {
     if a.len() != b.len() {
@@ -16,11 +16,4 @@ fn same_bytes(a: &[u8], b: &[u8]) -> bool
         i += 1;
     }
     true
-}
-
-// Whether a line is the input's header.
-pub fn is_header(line: &[u8]) -> bool
-    ensures { λ r. ⌜ r ≡ same (now (line .entry)) inputHeader ⌝ }
-{
-    same_bytes(line, b"id,law,r,r0,a,b,c,d,wal")
 }

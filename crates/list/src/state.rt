@@ -1,11 +1,13 @@
 // What is carried from chunk to chunk of a list.
 ghost use Rattle.list.specs.Promised.{Start};
+use crate::kinds::Desk;
+use crate::kinds::Kind;
 use lines::MOST_HELD;
 
-// What is due to the next line: it is the header, it is a row, or nothing is read any more.
+// What is due to the next line: it is the header of one of the desk's lists, it is a row, or nothing is read any more.
 pub enum Stage {
-    Header,
-    Rows,
+    Header(Desk),
+    Rows(Kind),
     Stopped,
 }
 
@@ -17,12 +19,12 @@ pub struct State {
 }
 
 // Before the first byte.
-pub fn start() -> State
-    ensures { λ r. ⌜ Start r ⌝ }
+pub fn start(desk: Desk) -> State
+    ensures { λ r. ⌜ Start desk r ⌝ }
 {
     State {
         held: [0u8; MOST_HELD],
         count: 0,
-        stage: Stage::Header,
+        stage: Stage::Header(desk),
     }
 }

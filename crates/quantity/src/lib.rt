@@ -8,6 +8,8 @@ pub use resistance::LARGEST_RATIO;
 pub use resistance::Nanoohm;
 pub use resistance::Ratio;
 pub use resistance::RatioAnswer;
+pub use resistance::are_within;
 pub use resistance::ratio_of;
+pub use resistance::ratio_within;
 pub use temperature::Celsius;
 pub use temperature::Kelvin;

@@ -1,9 +1,9 @@
 // Resistances, ratios, and the ratio of two resistances.
 ghost use mathlib.Core.Path.{_≡_};
-ghost use mathlib.Core.Bool.{_&&_};
+ghost use mathlib.Core.Bool.{_&&_, true};
 ghost use Prim.Native.Nat.{_≤_};
 ghost use lib.Dec.{leb};
-ghost use Rattle.quantity.specs.Quantities.{largestResistance, leastDivisor, ratioOf};
+ghost use Rattle.quantity.specs.Quantities.{largestResistance, leastDivisor, isReading, isDivisor, ratioOf};
 ghost use Rattle.quantity.specs.Outcomes.{Follows};
 ghost use Rattle.quantity.specs.Ratios.{ratioRule, stated};
 use crate::refusal::Refusal;
@@ -41,21 +41,31 @@ fn nine_decimals(r: u64, r0: u64) -> u64
     millionfold / r0 * 1000 + millionfold % r0 * 1000 / r0
 }
 
+// Whether R and R0 are both within their limits.
+pub fn are_within(r: Nanoohm, r0: Nanoohm) -> bool
+    ensures { λ b. ⌜ b ≡ (isReading (r .0) && isDivisor (r0 .0)) ⌝ }
+{
+    within(r.0, 1, LARGEST) & within(r0.0, LEAST_DIVISOR, LARGEST)
+}
+
+// The ratio of two resistances within their limits, also one above 4.4.
+pub fn ratio_within(r: Nanoohm, r0: Nanoohm) -> Ratio
+    requires { ⌜ (isReading (r .0) && isDivisor (r0 .0)) ≡ true ⌝ }
+    ensures { λ w. ⌜ w .0 ≡ ratioOf (r .0) (r0 .0) ⌝ }
+{
+    Ratio(nine_decimals(r.0, r0.0))
+}
+
 // The ratio of two resistances.
 pub fn ratio_of(r: Nanoohm, r0: Nanoohm) -> RatioAnswer
     ensures { λ m. ⌜ Follows (ratioRule (r .0) (r0 .0)) (stated m) ⌝ }
 {
-    let x = r.0;
-    let y = r0.0;
-    if !within(x, 1, LARGEST) {
+    if !are_within(r, r0) {
         return RatioAnswer::Refused(Refusal::ResistanceOutside);
     }
-    if !within(y, LEAST_DIVISOR, LARGEST) {
-        return RatioAnswer::Refused(Refusal::ResistanceOutside);
-    }
-    let w = nine_decimals(x, y);
-    if LARGEST_RATIO < w {
+    let w = ratio_within(r, r0);
+    if LARGEST_RATIO < w.0 {
         return RatioAnswer::Refused(Refusal::RatioAbove);
     }
-    RatioAnswer::Ratio(Ratio(w))
+    RatioAnswer::Ratio(w)
 }

@@ -1,4 +1,4 @@
--- The least ratio of a step, forward on the scale: every step has one, and reading it gives the step back.
+-- The least ratio of a step, forward on the scale: every step has one, and reading it gives the step back. By every law a step's ratio is at most 4.4.
 use mathlib.Core.Path.{_≡_, refl, sym, subst}
 use mathlib.Core.Bool.{true, _&&_}
 use mathlib.Core.List.{[], _∷_, _++_}
@@ -17,13 +17,15 @@ use Rattle.quantity.specs.Ratios.{ratioTests}
 use Rattle.quantity.proofs.Outcomes.{passed}
 use Rattle.law.specs.declared.subrange.Subrange.{Subrange}
 use Rattle.law.specs.declared.laws.Law.{Law}
-use Rattle.law.specs.declared.laws.Law.the-variants.{Scale}
+use Rattle.law.specs.declared.laws.Law.the-variants.{Curve, Scale}
 use Rattle.law.specs.Subranges.{carried}
 use Rattle.law.specs.Ranges.{stepTests}
 use Rattle.law.specs.Answers.{LawAndStep, noStep}
 use Rattle.law.proofs.Answers.{read-after}
 use Rattle.reference.specs.Reference.{working, last}
 use Rattle.reference.proofs.Rising.{climb}
+use Rattle.curve.specs.Curve as curve
+use Rattle.curve.proofs.Back as curve-back
 use Rattle.deviation.specs.declared.places.Places.{Places}
 use Rattle.deviation.specs.Limits.{Limited}
 use Rattle.deviation.specs.Working.{Wr}
@@ -32,7 +34,7 @@ use Rattle.certificate.specs.declared.soundness.Certificate.{Certificate}
 use Rattle.certificate.specs.Certificate.{certificateOf, sound, soundTests}
 use Rattle.reading.specs.Laws.{valueOf, rangeOf}
 use Rattle.reading.specs.Reading.{readRatio, readCertificate}
-use Rattle.reading.specs.Forward.{Least}
+use Rattle.reading.specs.Forward.{Least, RatioAt}
 use Rattle.reading.specs.Promised.{HasRatio, ReadsBack}
 use Rattle.reading.proofs.Ends.{bottom-is, range-bottom, range-top, tops, under-all, over-all}
 use Rattle.reading.proofs.Tests.{between}
@@ -83,11 +85,18 @@ has-ratio s k e step p q =
 
 -- ---- of the calls
 -- a step that passes 8 and 9
-inside : (bottom top step : ℤ) → numberGiven (stepTests bottom top step) ≡ 0 → (bottom ≤ℤ step) × (step ≤ℤ top)
+pub inside : (bottom top step : ℤ) → numberGiven (stepTests bottom top step) ≡ 0 → (bottom ≤ℤ step) × (step ≤ℤ top)
 inside bottom top step e =
     let low = passed (ltZ step bottom) 8 (ltZ top step gives 9 ∷ []) (omega arith) e in
     let high = passed (ltZ top step) 9 [] (omega arith) (low .1) in
     (lt-no refl (low .0), lt-no refl (high .0))
+
+-- a step's ratio, by every law
+pub ratio-most : (law : Law) (k : Places) (step : ℤ) (w : ℕ) → numberGiven (stepTests (rangeOf law .bottom) (rangeOf law .top) step) ≡ 0 → RatioAt law k step w → w ≤ largestRatio
+ratio-most Curve k step w e r =
+    let within = inside curve.first curve.last step e in
+    curve-back.ratio-most step w (within .0) (within .1) r
+ratio-most (Scale s) k step w e r = r .within
 
 -- a reading of resistances that pass their tests is that of their ratio
 pub reads-resistances : (k : Certificate) (r r0 : ℕ) → sound k ≡ true → (isReading r && isDivisor r0) ≡ true → ratioOf r r0 ≤ largestRatio → (o : Outcome LawAndStep) → Follows (readRatio (k .law) (k .places) (ratioOf r r0)) o → Follows (readCertificate k r r0) o

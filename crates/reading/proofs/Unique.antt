@@ -71,10 +71,12 @@ same-forward : (k : Certificate) (step : ℤ) (a b : LawAndRatio) → forwardCer
 same-forward k step a b p q =
     ap₂ {C = LawAndRatio} (λ (l : Option Law) (w : ℕ). record { law = l; ratio = w }) (p .0 ∙ sym (q .0)) (same-ratio (k .law) (k .places) step (a .ratio) (b .ratio) (p .1) (q .1))
 
+pub ratio-unique : (k : Given) (step : ℤ) (o o′ : Outcome LawAndRatio) → Follows (forwardGiven k step) o → Follows (forwardGiven k step) o′ → o ≡ o′
+ratio-unique k step =
+    one-named noRatio (lawNamed (k .law .0)) (λ law. forwardCertificate (certificateOf law k) step) (λ law. same-forward (certificateOf law k) step)
+
 pub one-forward : (k : Given) (step : ℤ) (x y : ForwardAnswer) → Follows (forwardGiven k step) (statedForward x) → Follows (forwardGiven k step) (statedForward y) → x ≡ y
-one-forward k step x y h i =
-    forward-unique x y
-    (one-named noRatio (lawNamed (k .law .0)) (λ law. forwardCertificate (certificateOf law k) step) (λ law. same-forward (certificateOf law k) step) (statedForward x) (statedForward y) h i)
+one-forward k step x y h i = forward-unique x y (ratio-unique k step (statedForward x) (statedForward y) h i)
 
 pub one-forward-by : (k : Certificate) (step : ℤ) (x y : ForwardAnswer) → Follows (forwardCertificate k step) (statedForward x) → Follows (forwardCertificate k step) (statedForward y) → x ≡ y
 one-forward-by k step x y h i =

@@ -2,14 +2,14 @@
 // makes what is expected (second/register_cases.py, where the family of cases is described).
 ghost use Prim.Native.Nat.{_≤_};
 use certificate::Given;
-use draws::given_by;
-use draws::law_text;
-use draws::places_text;
 use entry::Entry;
 use entry::Serial;
 use entry::Thermometer;
 use evidence::Generator;
 use evidence::Report;
+use evidence::given_by;
+use evidence::law_text;
+use evidence::places_text;
 use examination::Change;
 use law::Ag;
 use law::CURVE;

@@ -1,13 +1,13 @@
 // The register's story: a certificate that was withdrawn stays withdrawn when an import brings it back, and a newer one takes its place. The second
 // program makes what is expected (second/register_story.py).
 use certificate::Given;
-use draws::given_by;
-use draws::say_law;
 use entry::Entry;
 use entry::Serial;
 use entry::Thermometer;
 use evidence::ONE;
+use evidence::given_by;
 use evidence::say;
+use evidence::say_law;
 use evidence::say_natural;
 use evidence::say_refused;
 use evidence::say_signed;

@@ -1,8 +1,5 @@
--- What is proved of the definitions of `row`.
-pub mod Spans
-pub mod Digits
-pub mod Fields
-pub mod Offsets
-pub mod Scan
-pub mod Joined
+-- What is proved of rows.
+pub mod Read
+pub mod Pairs
+pub mod Parsed
 pub mod Unique

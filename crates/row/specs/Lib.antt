@@ -1,6 +1,8 @@
--- The definitions of `row`.
-pub mod Fields
-pub mod Joined
-pub mod Numbers
-pub mod Rows
-pub mod Scanned
+-- The definitions of `row`: the columns of each kind of list, and what a row of it says.
+pub mod Parsing
+pub mod Places
+pub mod Readings
+pub mod Forward
+pub mod Records
+pub mod Resistances
+pub mod Tolerances

@@ -1,9 +1,22 @@
-// A line of the list: its fields, found and read in one pass.
-mod field;
-mod name;
-mod number;
-mod row;
+// The rows of each kind of list: what a line says by its columns, or that it is no row.
+mod forward;
+mod readings;
+mod records;
+mod resistances;
+mod tolerances;
 
-pub use row::Parsed;
-pub use row::Row;
-pub use row::parse;
+pub use forward::ForwardParsed;
+pub use forward::ForwardRow;
+pub use forward::parse_forward;
+pub use readings::ReadingParsed;
+pub use readings::ReadingRow;
+pub use readings::parse_reading;
+pub use records::RecordParsed;
+pub use records::RecordRow;
+pub use records::parse_record;
+pub use resistances::ResistancesParsed;
+pub use resistances::ResistancesRow;
+pub use resistances::parse_resistances;
+pub use tolerances::ToleranceParsed;
+pub use tolerances::ToleranceRow;
+pub use tolerances::parse_tolerance;

@@ -8,8 +8,8 @@ use Rattle.lines.proofs.append.Tie as tie
 sub-room : tie.Need-sub-room
 sub-room c = search needs
 
-copy-requires : tie.Need-copy-requires
-copy-requires c κs = search needs
+put-requires : tie.Need-put-requires
+put-requires c κs = search needs
 
 add-result : tie.Need-add-result
 add-result c = search needs
@@ -20,7 +20,7 @@ same-length c = search needs
 returns : tie.Need-returns
 returns c =
     let a = c .before .before .before .before .before .before .before in
-    append-fits (a .args .held .now) (a .args .s .now) (a .args .count) (a .pre .0) (a .pre .1) (c .before .before .copy .last .0) (omega (arith, a .pre, c .before .before .before .before .if1 .taken)) (c .before .before .copy .ensures)
+    append-fits (a .args .held .now) (a .args .s .now) (a .args .count) (a .pre .0) (a .pre .1) (c .before .before .put .last .0) (omega (arith, a .pre, c .before .before .before .before .if1 .taken)) (c .before .before .put .ensures)
 
 fill-requires : tie.Need-fill-requires
 fill-requires c κs = search needs
@@ -47,7 +47,7 @@ append-spec =
     tie.close
     (tie.spec
     sub-room
-    copy-requires
+    put-requires
     add-result
     same-length
     returns

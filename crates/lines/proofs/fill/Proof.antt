@@ -9,16 +9,16 @@ use borrow.Author.Needs.{needs}
 use Rattle.lines.proofs.fill.Statement.{statement}
 use Rattle.lines.proofs.fill.Tie as tie
 
-sub-copy : tie.Need-sub-copy
-sub-copy c = search needs
+sub-put : tie.Need-sub-put
+sub-put c = search needs
 
-slice-aggregate-copy : tie.Need-slice-aggregate-copy
-slice-aggregate-copy c =
+slice-aggregate-put : tie.Need-slice-aggregate-put
+slice-aggregate-put c =
     let a = c .before .before .before .before .before in
     sym (length-take-le (201 - a .args .count) (a .args .s .now) (omega (arith, a .pre, c .before .before .if1 .taken)))
 
-copy-requires : tie.Need-copy-requires
-copy-requires c κs =
+put-requires : tie.Need-put-requires
+put-requires c κs =
     let a = c .before .before .before .before .before in
     let l : length (take (201 - a .args .count) (a .args .s .now)) ≡ 201 - a .args .count = length-take-le (201 - a .args .count) (a .args .s .now) (omega (arith, a .pre, c .before .before .if1 .taken)) in
     omega (arith, l, a .pre, c .before .before .if1 .taken)
@@ -29,7 +29,7 @@ same-length c = search needs
 returns : tie.Need-returns
 returns c =
     let a = c .before .before .before .before .before .before .before .before in
-    c .before .before .copy .ensures ∙ fill-copied (a .args .held .now) (a .args .s .now) (a .args .count) (a .pre .0) (a .pre .1) (c .before .before .before .before .before .if1 .taken) (a .pre .2)
+    c .before .before .put .ensures ∙ fill-copied (a .args .held .now) (a .args .s .now) (a .args .count) (a .pre .0) (a .pre .1) (c .before .before .before .before .before .if1 .taken) (a .pre .2)
 
 returns-2 : tie.Need-returns-2
 returns-2 c =
@@ -38,4 +38,4 @@ returns-2 c =
 
 pub fill-spec : {M : Type 1} → statement M
 fill-spec =
-    tie.close (tie.spec sub-copy slice-aggregate-copy copy-requires same-length returns returns-2)
+    tie.close (tie.spec sub-put slice-aggregate-put put-requires same-length returns returns-2)

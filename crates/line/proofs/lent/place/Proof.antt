@@ -1,6 +1,6 @@
 -- `line::lent::place` meets its contract: the text is written, or there is no room for it.
 use Rattle.line.proofs.Placing.{placed, not-placed}
-use Rattle.line.proofs.Overs.{over-start}
+use Rattle.text.proofs.Overs.{over-start}
 use mathlib.Core.Path.{refl, _∙_}
 use borrow.Author.Needs.{needs}
 use Rattle.line.proofs.lent.place.Statement.{statement}

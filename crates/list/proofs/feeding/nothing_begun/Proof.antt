@@ -1,55 +1,57 @@
--- `list::feeding::nothing_begun` meets its contract at each stage.
-use Rattle.list.specs.Feeding.{EndedWith}
-use Rattle.list.specs.Lists.{wrongHeader}
-use Rattle.list.specs.declared.state.Stage.{Stage}
-use Rattle.line.proofs.Placing.{placed}
+-- `list::feeding::nothing_begun` meets its contract: only before the header is something due.
+use mathlib.Core.Path.{refl, sym, subst}
+use mathlib.Core.List.{[]}
 use Rattle.quantity.specs.Refusals.{numberOf}
 use Rattle.quantity.specs.declared.refusal.Refusal.the-variants.{IllFormed}
-use Prim.Native.Nat.{zero-le}
-use mathlib.Core.List.{[]}
-use mathlib.Core.Path.{refl, sym, subst}
+use Rattle.list.specs.declared.state.Stage.{Stage}
+use Rattle.list.specs.Kinds.{wrongHeader}
+use Rattle.list.specs.Feeding.{EndedWith}
+use Rattle.list.proofs.Nothing.{nothing-placed}
 use borrow.Author.Needs.{needs}
 use Rattle.list.proofs.feeding.nothing_begun.Statement.{statement}
 use Rattle.list.proofs.feeding.nothing_begun.Tie as tie
 
-enum-told : tie.Need-enum-told
-enum-told c = search needs
+enum-known-stage : tie.Need-enum-known-stage
+enum-known-stage c = search needs
 
 wrong-header-requires : tie.Need-wrong-header-requires
 wrong-header-requires c κs = search needs
 
+enum-told : tie.Need-enum-told
+enum-told c = search needs
+
 enum-told-2 : tie.Need-enum-told-2
 enum-told-2 c = search needs
-
-enum-told-3 : tie.Need-enum-told-3
-enum-told-3 c = search needs
 
 same-length : tie.Need-same-length
 same-length c = search needs
 
 returns : tie.Need-returns
 returns c =
-    subst (λ (g : Stage). EndedWith g [] (c .before .before .before .before .before .before .before .before .args .out .now) (c .before .before .before .wrong-header .last .0) (c .before .before .before .wrong-header .result .answer)) (sym (c .before .before .before .before .before .enum-told .given .1))
-    (numberOf IllFormed, wrongHeader, (refl, refl), c .before .before .before .wrong-header .ensures .0)
+    let wrong = c .before .before .before in
+    let told = wrong .before .before .before in
+    let s = told .before .before .before .args in
+    subst (λ (g : Stage). EndedWith g [] (s .out .now) (wrong .wrong-header .last .1 .0) (wrong .wrong-header .result .answer)) (sym (told .stage .given .1))
+    (numberOf IllFormed, wrongHeader (told .stage .given .0 .0), (refl, refl), wrong .wrong-header .ensures .0)
 
 returns-2 : tie.Need-returns-2
 returns-2 c =
-    subst (λ (g : Stage). EndedWith g [] (c .before .before .before .args .out .now) (c .before .before .before .args .out .now) (record { code = 0; wrote = 0 })) (sym (c .enum-told2 .given .1))
-    (0, [], (refl, refl), placed 0 [] (c .before .before .before .args .out .now) (c .before .before .before .args .out .now) 0 refl zero-le refl .0)
+    let s = c .before .before .before .args in
+    subst (λ (g : Stage). EndedWith g [] (s .out .now) (s .out .now) (record { code = 0; wrote = 0 })) (sym (c .enum-told .given .1)) (0, [], (refl, refl), nothing-placed (s .out .now))
 
 returns-3 : tie.Need-returns-3
 returns-3 c =
-    subst (λ (g : Stage). EndedWith g [] (c .before .before .before .args .out .now) (c .before .before .before .args .out .now) (record { code = 0; wrote = 0 })) (sym (c .enum-told3 .given .1))
-    (0, [], (refl, refl), placed 0 [] (c .before .before .before .args .out .now) (c .before .before .before .args .out .now) 0 refl zero-le refl .0)
+    let s = c .before .before .before .args in
+    subst (λ (g : Stage). EndedWith g [] (s .out .now) (s .out .now) (record { code = 0; wrote = 0 })) (sym (c .enum-told2 .given .1)) (0, [], (refl, refl), nothing-placed (s .out .now))
 
 pub nothing-begun-spec : {M : Type 1} → statement M
 nothing-begun-spec =
     tie.close
     (tie.spec
-    enum-told
+    enum-known-stage
     wrong-header-requires
+    enum-told
     enum-told-2
-    enum-told-3
     same-length
     returns
     returns-2

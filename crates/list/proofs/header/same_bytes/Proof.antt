@@ -1,6 +1,6 @@
 -- `list::header::same_bytes` meets its contract: the bytes passed are the same.
 use Rattle.list.proofs.Same.{same-not, same-on, same-no, same-end}
-use Rattle.list.specs.Lists.{same}
+use Rattle.list.specs.Kinds.{same}
 use lib.ListN.{length, drop}
 use Prim.Native.Nat.{_-_, _≤_}
 use native.Mathlib.Omega.{arith}

@@ -1,0 +1,5 @@
+-- The proofs about the bench's answers.
+pub mod Made
+pub mod Rows
+pub mod Unique
+pub mod Rooms

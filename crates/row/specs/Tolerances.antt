@@ -1,0 +1,38 @@
+-- A list of tolerance tests: its columns, and what a row says.
+use mathlib.Core.List.{List, [], _∷_}
+use Prim.Native.Nat.{ℕ}
+use Rattle.text.specs.Columns.{Column, _holds_, id, oneLetter, natural, signed, Value, values, letterAt, integerAt, countAt, namesLength}
+use Rattle.row.specs.declared.tolerances.ToleranceRow.{ToleranceRow}
+use Rattle.row.specs.declared.tolerances.ToleranceParsed.{ToleranceParsed}
+use Rattle.row.specs.declared.tolerances.ToleranceParsed.the-variants.{Row, IllFormed}
+use Rattle.row.specs.Parsing.{Parsing, aRow, noRow, parsedBy}
+use Rattle.row.specs.Places.{digits}
+
+abbrev pub columns : List Column
+columns =
+    "id" holds id
+    ∷ "class" holds oneLetter
+    ∷ "t" holds signed digits
+    ∷ "r" holds natural digits
+    ∷ "r0" holds natural digits
+    ∷ []
+
+abbrev pub rowFrom : ℕ → List Value → ToleranceRow
+rowFrom names row = record {
+  names = names;
+  class = letterAt 1 row;
+  bath = record { 0 = integerAt 2 row };
+  r = record { 0 = countAt 3 row };
+  r0 = record { 0 = countAt 4 row };
+}
+
+abbrev pub rowOf : List ℕ → ToleranceRow
+rowOf line = rowFrom (namesLength line) (values columns line)
+
+-- What each case stands for.
+abbrev pub stated : ToleranceParsed → Parsing ToleranceRow
+stated (Row row) = aRow row
+stated IllFormed = noRow
+
+abbrev pub parsedAs : List ℕ → Parsing ToleranceRow
+parsedAs = parsedBy columns rowOf

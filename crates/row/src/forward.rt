@@ -1,0 +1,58 @@
+// A row of a list of steps to be taken forward: id, law, t and the five places of a certificate.
+ghost use mathlib.Core.Path.{_≡_};
+ghost use Rattle.row.specs.Forward.{stated, parsedAs};
+use certificate::Given;
+use deviation::Places;
+use law::Name;
+use quantity::Celsius;
+use quantity::Ratio;
+use text::LONGEST_LINE;
+use text::after_id;
+use text::name_at;
+use text::number_at;
+use text::signed_at;
+
+// `names` is how many bytes the first two fields take, with the comma after each.
+pub struct ForwardRow {
+    pub names: usize,
+    pub certificate: Given,
+    pub step: Celsius,
+}
+
+pub enum ForwardParsed {
+    Row(ForwardRow),
+    IllFormed,
+}
+
+// What a line says, without its CRLF.
+pub fn parse_forward(line: &[u8]) -> ForwardParsed
+    ensures { λ x. ⌜ stated x ≡ parsedAs (now (line .entry)) ⌝ }
+{
+    if LONGEST_LINE < line.len() {
+        return ForwardParsed::IllFormed;
+    }
+    let law = name_at(line, after_id(line));
+    let t = signed_at(line, law.next, 13);
+    let a = signed_at(line, t.next, 13);
+    let b = signed_at(line, a.next, 13);
+    let c = signed_at(line, b.next, 13);
+    let d = signed_at(line, c.next, 13);
+    let wal = number_at(line, d.next, 13);
+    if wal.next != line.len() + 1 {
+        return ForwardParsed::IllFormed;
+    }
+    ForwardParsed::Row(ForwardRow {
+        names: law.next,
+        certificate: Given {
+            law: Name(law.value),
+            places: Places {
+                a: a.value,
+                b: b.value,
+                c: c.value,
+                d: d.value,
+                wal: Ratio(wal.value),
+            },
+        },
+        step: Celsius(t.value),
+    })
+}

@@ -1,0 +1,54 @@
+// A row of a list of records: id, subrange and a ratio for each cell.
+ghost use mathlib.Core.Path.{_≡_};
+ghost use Rattle.row.specs.Records.{stated, parsedAs};
+use certificate::Record;
+use law::Name;
+use quantity::Ratio;
+use text::LONGEST_LINE;
+use text::after_id;
+use text::name_at;
+use text::number_at;
+
+// `names` is how many bytes the first two fields take, with the comma after each.
+pub struct RecordRow {
+    pub names: usize,
+    pub cells: Record,
+}
+
+pub enum RecordParsed {
+    Row(RecordRow),
+    IllFormed,
+}
+
+// What a line says, without its CRLF.
+pub fn parse_record(line: &[u8]) -> RecordParsed
+    ensures { λ x. ⌜ stated x ≡ parsedAs (now (line .entry)) ⌝ }
+{
+    if LONGEST_LINE < line.len() {
+        return RecordParsed::IllFormed;
+    }
+    let subrange = name_at(line, after_id(line));
+    let hg = number_at(line, subrange.next, 13);
+    let ga = number_at(line, hg.next, 13);
+    let indium = number_at(line, ga.next, 13);
+    let sn = number_at(line, indium.next, 13);
+    let zn = number_at(line, sn.next, 13);
+    let al = number_at(line, zn.next, 13);
+    let ag = number_at(line, al.next, 13);
+    if ag.next != line.len() + 1 {
+        return RecordParsed::IllFormed;
+    }
+    RecordParsed::Row(RecordRow {
+        names: subrange.next,
+        cells: Record {
+            subrange: Name(subrange.value),
+            mercury: Ratio(hg.value),
+            gallium: Ratio(ga.value),
+            indium: Ratio(indium.value),
+            tin: Ratio(sn.value),
+            zinc: Ratio(zn.value),
+            aluminium: Ratio(al.value),
+            silver: Ratio(ag.value),
+        },
+    })
+}

@@ -1,0 +1,86 @@
+// A row of a list of records given as resistances: id, subrange and, for each cell, its resistance and the water cell's.
+ghost use mathlib.Core.Path.{_≡_};
+ghost use Prim.Native.Nat.{_≤_};
+ghost use lib.ListN.{length};
+ghost use Rattle.text.specs.Columns.{longestLine};
+ghost use Rattle.row.specs.Resistances.{pairAt, stated, parsedAs};
+use certificate::Pair;
+use certificate::Resistances;
+use law::Name;
+use quantity::Nanoohm;
+use text::LONGEST_LINE;
+use text::after_id;
+use text::name_at;
+use text::number_at;
+
+// `names` is how many bytes the first two fields take, with the comma after each.
+pub struct ResistancesRow {
+    pub names: usize,
+    pub cells: Resistances,
+}
+
+pub enum ResistancesParsed {
+    Row(ResistancesRow),
+    IllFormed,
+}
+
+// The two resistances of a cell, and where the next field starts.
+pub struct PairAt {
+    pub pair: Pair,
+    pub next: usize,
+}
+
+fn pair_at(line: &[u8], from: usize) -> PairAt
+    requires { ⌜ length (now line) ≤ longestLine ⌝ }
+    ensures { λ x. ⌜ x ≡ pairAt (now (line .entry)) from ⌝ }
+{
+    let r = number_at(line, from, 13);
+    let r0 = number_at(line, r.next, 13);
+    PairAt {
+        pair: Pair {
+            r: Nanoohm(r.value),
+            r0: Nanoohm(r0.value),
+        },
+        next: r0.next,
+    }
+}
+
+// What a line says, without its CRLF.
+pub fn parse_resistances(line: &[u8]) -> ResistancesParsed
+    ensures { λ x. ⌜ stated x ≡ parsedAs (now (line .entry)) ⌝ }
+{
+    if LONGEST_LINE < line.len() {
+        return ResistancesParsed::IllFormed;
+    }
+    let subrange = name_at(line, after_id(line));
+    let hg = pair_at(line, subrange.next);
+    let ga = pair_at(line, hg.next);
+    let in_ = pair_at(line, ga.next);
+    let sn = pair_at(line, in_.next);
+    let zn = pair_at(line, sn.next);
+    let al = pair_at(line, zn.next);
+    let ag = pair_at(line, al.next);
+    if ag.next != line.len() + 1 {
+        return ResistancesParsed::IllFormed;
+    }
+    let mercury = hg.pair;
+    let gallium = ga.pair;
+    let indium = in_.pair;
+    let tin = sn.pair;
+    let zinc = zn.pair;
+    let aluminium = al.pair;
+    let silver = ag.pair;
+    ResistancesParsed::Row(ResistancesRow {
+        names: subrange.next,
+        cells: Resistances {
+            subrange: Name(subrange.value),
+            mercury,
+            gallium,
+            indium,
+            tin,
+            zinc,
+            aluminium,
+            silver,
+        },
+    })
+}

@@ -1,0 +1,181 @@
+-- A list's columns are a table. From it come the rules of a row, what the row says, and why a line is no row.
+use mathlib.Core.List.{List, [], _∷_, map}
+use mathlib.Core.Bool.{Bool, true, false, _&&_, _||_, not}
+use mathlib.Core.Option.{Option, none, some}
+use Prim.Native.Nat.{ℕ, _+_}
+use Prim.Native.Char.{code}
+use Prim.Native.String.{String}
+use lib.Dec.{ltb, eqb}
+use lib.IntN.{ℤ, pos}
+use lib.ListN.{length, getD}
+use Rattle.whole.specs.Choice.{if_then_else_}
+use Rattle.whole.specs.Text.{ascii, nameOf}
+use Rattle.text.specs.Fields.{fields, sized, every, digit, capital, small, letter}
+use Rattle.text.specs.Joined.{joined}
+use Rattle.text.specs.Numbers.{isNumber, isSigned, valueOf, signedOf}
+
+-- What a column holds: an id, a name, a letter, a number from 0 up or a number of either sign, of at most so many digits.
+pub data Holds : Type 0 where
+  id : Holds
+  name : Holds
+  oneLetter : Holds
+  natural : ℕ → Holds
+  signed : ℕ → Holds
+
+-- A column: the title that the header has for it, and what it holds.
+infix 70 _holds_
+pub data Column : Type 0 where
+  _holds_ : String → Holds → Column
+
+abbrev pub title : Column → List ℕ
+title (text holds what) = ascii text
+
+-- The header of a list: its titles, in their order.
+abbrev pub headerOf : List Column → List ℕ
+headerOf columns = joined (map title columns)
+
+abbrev pub idByte : ℕ → Bool
+idByte b = capital b || small b || digit b || eqb b (code "-")
+
+abbrev pub longestId : ℕ
+longestId = 16
+
+-- An id: letters, digits or hyphens of ASCII, 1 to 16 of them.
+abbrev pub isId : List ℕ → Bool
+isId s = sized 1 longestId s && every idByte s
+
+abbrev pub longestName : ℕ
+longestName = 8
+
+-- A name: 1 to 8 small letters.
+abbrev pub isName : List ℕ → Bool
+isName s = sized 1 longestName s && every small s
+
+-- A letter, capital or small.
+abbrev pub isLetter : List ℕ → Bool
+isLetter s = sized 1 1 s && every letter s
+
+-- The rule of a field.
+abbrev pub ruleOf : Holds → List ℕ → Bool
+ruleOf id = isId
+ruleOf name = isName
+ruleOf oneLetter = isLetter
+ruleOf (natural most) = isNumber most
+ruleOf (signed most) = isSigned most
+
+abbrev pub rule : Column → List ℕ → Bool
+rule (text holds what) = ruleOf what
+
+-- The longest line, without its CRLF.
+abbrev pub longestLine : ℕ
+longestLine = 200
+
+-- ---- why a line is no row
+-- It is too long, it has not as many fields as there are columns, or the field with this number, counted from 1, breaks its rule.
+pub data Fault : Type 0 where
+  tooLong : Fault
+  miscounted : Fault
+  broken : ℕ → Fault
+
+-- The first field from the left that breaks its rule, the first of these fields being number n.
+abbrev pub firstBroken : ℕ → List Column → List (List ℕ) → Option Fault
+firstBroken n [] fs = none
+firstBroken n (c ∷ cs) [] = none
+firstBroken n (c ∷ cs) (f ∷ fs) = if rule c f then firstBroken (n + 1) cs fs else some (broken n)
+
+unfoldable pub faultOf : List Column → List ℕ → Option Fault
+faultOf columns line =
+    if ltb longestLine (length line) then some tooLong
+    else if not (eqb (length (fields line)) (length columns)) then some miscounted
+    else firstBroken 1 columns (fields line)
+
+abbrev pub isNone : Option Fault → Bool
+isNone none = true
+isNone (some fault) = false
+
+-- A line is a row where nothing is at fault.
+unfoldable pub wellFormed : List Column → List ℕ → Bool
+wellFormed columns line = isNone (faultOf columns line)
+
+-- ---- what a row says
+-- An id as its bytes, a name as its number, a letter as its byte, a number from 0 up as a count and one of either sign as an integer.
+pub data Value : Type 0 where
+  word : List ℕ → Value
+  named : ℕ → Value
+  byte : ℕ → Value
+  count : ℕ → Value
+  integer : ℤ → Value
+
+abbrev pub firstByte : List ℕ → ℕ
+firstByte s = getD s 0 0
+
+abbrev pub saidAs : Holds → List ℕ → Value
+saidAs id f = word f
+saidAs name f = named (nameOf f)
+saidAs oneLetter f = byte (firstByte f)
+saidAs (natural most) f = count (valueOf f)
+saidAs (signed most) f = integer (signedOf f)
+
+abbrev pub said : Column → List ℕ → Value
+said (text holds what) = saidAs what
+
+-- What each field says, by its column.
+abbrev pub saidBy : List Column → List (List ℕ) → List Value
+saidBy [] fs = []
+saidBy (c ∷ cs) [] = []
+saidBy (c ∷ cs) (f ∷ fs) = said c f ∷ saidBy cs fs
+
+unfoldable pub values : List Column → List ℕ → List Value
+values columns line = saidBy columns (fields line)
+
+-- What the column at a place says, counted from 0: the name, the letter, the count, the integer; 0 where it holds something else.
+abbrev pub nameOr0 : Value → ℕ
+nameOr0 (word s) = 0
+nameOr0 (named n) = n
+nameOr0 (byte b) = 0
+nameOr0 (count n) = 0
+nameOr0 (integer z) = 0
+
+abbrev pub byteOr0 : Value → ℕ
+byteOr0 (word s) = 0
+byteOr0 (named n) = 0
+byteOr0 (byte b) = b
+byteOr0 (count n) = 0
+byteOr0 (integer z) = 0
+
+abbrev pub countOr0 : Value → ℕ
+countOr0 (word s) = 0
+countOr0 (named n) = 0
+countOr0 (byte b) = 0
+countOr0 (count n) = n
+countOr0 (integer z) = 0
+
+abbrev pub integerOr0 : Value → ℤ
+integerOr0 (word s) = pos 0
+integerOr0 (named n) = pos 0
+integerOr0 (byte b) = pos 0
+integerOr0 (count n) = pos 0
+integerOr0 (integer z) = z
+
+abbrev pub valueAt : ℕ → List Value → Value
+valueAt place row = getD row place (word [])
+
+abbrev pub nameAt : ℕ → List Value → ℕ
+nameAt place row = nameOr0 (valueAt place row)
+
+abbrev pub letterAt : ℕ → List Value → ℕ
+letterAt place row = byteOr0 (valueAt place row)
+
+abbrev pub countAt : ℕ → List Value → ℕ
+countAt place row = countOr0 (valueAt place row)
+
+abbrev pub integerAt : ℕ → List Value → ℤ
+integerAt place row = integerOr0 (valueAt place row)
+
+-- The field at a place, counted from 0.
+abbrev pub fieldAt : ℕ → List ℕ → List ℕ
+fieldAt place line = getD (fields line) place []
+
+-- How many bytes the first two fields take, with the comma after each: an answer repeats them.
+abbrev pub namesLength : List ℕ → ℕ
+namesLength line = length (fieldAt 0 line) + 1 + length (fieldAt 1 line) + 1

@@ -1,0 +1,111 @@
+"""All families of cases, and what they must have met together.
+
+    python3 -B second/families.py  tells what the cases met
+
+A case is drawn, answered here with every promise tested on it, and gives one line
+or more of the lists of `launchlist` and `benchlist`. A family must have met every
+outcome it can have, and all of them together every refusal before every other
+that can have a cause beside it.
+"""
+
+from collections import Counter
+
+import reading_families
+import record_families
+import tolerance_families
+from cases import CheckFailed
+from family import check_family, code_of, part, parts
+from lists import FORWARD, RATIOS, READINGS, RESISTANCES, TOLERANCE, WRONG_LENGTH
+from promises import Survey, check_seen, in_thousandths
+
+FAMILIES = (
+    *reading_families.FAMILIES,
+    *tolerance_families.FAMILIES,
+    *record_families.FAMILIES,
+)
+
+# Each refusal with those that had a cause too where it was given.
+BATH_8, BATH_9 = "bath 8", "bath 9"
+ORDERS = {
+    "reading": {3: (7, 1, 2), 7: (1, 2, 8, 9), 1: (2, 8, 9), 2: (9,)},
+    "forward": {3: (7,), 7: (8, 9)},
+    "record": {
+        3: (2, 5, 6, 7),
+        2: (4, 5, 6, 7),
+        4: (5, 6, 7),
+        5: (6, 7),
+        6: (7,),
+    },
+    "measured": {
+        3: (1, 2, 5, 6, 7),
+        1: (2, 4, 5, 6, 7),
+        2: (4, 5, 6, 7),
+        4: (5, 6, 7),
+        5: (6, 7),
+        6: (7,),
+    },
+    "tolerance": {
+        3: (BATH_8, BATH_9, 1, 2, 8, 9),
+        BATH_8: (1, 2, 8, 9),
+        BATH_9: (1, 2, 8, 9),
+        1: (2, 8, 9),
+        2: (9,),
+    },
+}
+ORDER_LEAST = 3
+
+# The numbers that a list gives to lines of its families, 0 with an answer.
+CODES = {
+    READINGS: (0, 1, 2, 3, 7, 8, 9),
+    RATIOS: (0, 2, 3, 4, 5, 6, 7),
+    RESISTANCES: (0, 1, 2, 3, 4, 5, 6, 7, WRONG_LENGTH),
+    FORWARD: (0, 3, 7, 8, 9),
+    TOLERANCE: (0, 1, 2, 3, 8, 9),
+}
+CODE_LEAST = 50
+
+
+def check_orders(orders):
+    for call, firsts in ORDERS.items():
+        for first, laters in firsts.items():
+            for later in laters:
+                count = orders[call, f"{first} before {later}"]
+                if count < ORDER_LEAST:
+                    raise CheckFailed(f"{call}: {first} before {later} {count} times")
+
+
+def check_codes(codes):
+    """That each list gave each of its numbers, and no other."""
+    least = {(one.name, code): CODE_LEAST for one in CODES for code in CODES[one]}
+    check_seen("lines", codes, least)
+
+
+def tell():
+    """Tells what each family met."""
+    orders = Counter()
+    codes = Counter()
+    for family in FAMILIES:
+        survey = Survey()
+        counts = Counter()
+        for first in parts(family):
+            for one, lines in part(family, first, survey).items():
+                counts[one.name] += len(lines)
+                codes.update((one.name, code_of(due)) for _, due in lines)
+        orders += survey.orders
+        print(f"{family.name}: {family.size} cases, {dict(counts)}")
+        for what, count in sorted(survey.seen.items(), key=str):
+            print(f"  {what}: {count}")
+        if survey.over is not None:
+            print(f"  over, in thousandths of a unit: {in_thousandths(survey.over)}")
+            print(f"  under, in thousandths of a unit: {in_thousandths(survey.under)}")
+        check_family(family, survey.seen)
+    for (call, pair), count in sorted(orders.items()):
+        print(f"{call}, {pair}: {count}")
+    for (name, code), count in sorted(codes.items()):
+        print(f"{name}, code {code}: {count}")
+    check_orders(orders)
+    check_codes(codes)
+
+
+if __name__ == "__main__":
+    tell()

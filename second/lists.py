@@ -1,0 +1,232 @@
+"""The lists of `launchlist` and `benchlist`, scope document, section "The list":
+all bytes read to all bytes written.
+
+A list is a row of columns, and each column has a pattern. The input is split at
+every CRLF, a line at every comma, and each field matched as a whole; nothing is
+looked at byte by byte.
+"""
+
+import re
+from collections.abc import Callable
+from functools import lru_cache
+from typing import NamedTuple
+
+from certificate import CELLS, certify, certify_measured
+from quantity import Refused
+from reading import forward, read, tolerance
+
+LINE_END = b"\r\n"
+COMMA = b","
+
+LINE_MOST = 200  # bytes before CRLF
+
+ID_MOST = 16
+WORD_MOST = 8
+DIGITS_MOST = 13
+RESISTANCE_DIGITS_MOST = 13
+
+# The number of a wrong first line, and of an ill-formed one by what is wrong.
+WRONG_HEADER = 10
+WRONG_LENGTH = 10
+WRONG_COUNT = 10
+WRONG_FIELD = 10
+WRONG_LINE = {WRONG_LENGTH, WRONG_COUNT, WRONG_FIELD}
+
+
+class Kind(NamedTuple):
+    """What a column takes: the pattern of the whole field, what a field stands
+    for, and of a number how many digits it may have."""
+
+    pattern: re.Pattern
+    value: Callable
+    digits: int = 0
+
+
+def text(field):
+    return field.decode("ascii")
+
+
+# Patterns of bytes, with classes written out, put to the whole field: in text
+# \d takes digits of every script, and $ lets an LF at the end pass.
+def count(digits):
+    return Kind(re.compile(rb"0|[1-9][0-9]{0,%d}" % (digits - 1)), int, digits)
+
+
+def signed(digits):
+    return Kind(re.compile(rb"0|-?[1-9][0-9]{0,%d}" % (digits - 1)), int, digits)
+
+
+ID = Kind(re.compile(rb"[A-Za-z0-9-]{1,%d}" % ID_MOST), bytes)
+WORD = Kind(re.compile(rb"[a-z]{1,%d}" % WORD_MOST), text)
+LETTER = Kind(re.compile(rb"[A-Za-z]"), text)
+COUNT = count(DIGITS_MOST)
+SIGNED = signed(DIGITS_MOST)
+RESISTANCE = count(RESISTANCE_DIGITS_MOST)
+
+PLACES = {"a": SIGNED, "b": SIGNED, "c": SIGNED, "d": SIGNED, "wal": COUNT}
+CELL_NAMES = [cell.lower() for cell in CELLS]
+
+
+def line_of(*values):
+    """The line of these values: bytes, text and numbers."""
+    parts = [v if isinstance(v, bytes) else str(v).encode("ascii") for v in values]
+    return COMMA.join(parts)
+
+
+class List:
+    """A list: its columns by name, in order; the header of its answers; and what
+    is asked of a line's numbers, the law, subrange or class before them.
+
+    What is asked gives the fields that an answer has between law and code, or is
+    Refused.
+    """
+
+    def __init__(self, name, columns, answer_header, ask):
+        self.name = name
+        self.kinds = tuple(columns.values())
+        self.header = COMMA.join(column.encode("ascii") for column in columns)
+        self.answer_header = answer_header
+        self.between = len(answer_header.split(COMMA)) - 3
+        self.ask = ask
+        self.ill_formed = self.refusal("?", "?", WRONG_FIELD)
+
+    def fault_of(self, line):
+        """The number of what is wrong with a line, or None for a well-formed one."""
+        if len(line) > LINE_MOST:
+            return WRONG_LENGTH
+        fields = line.split(COMMA)
+        if len(fields) != len(self.kinds):
+            return WRONG_COUNT
+        for kind, field in zip(self.kinds, fields):
+            if kind.pattern.fullmatch(field) is None:
+                return WRONG_FIELD
+        return None
+
+    def values_of(self, line):
+        """What the fields of a well-formed line stand for."""
+        fields = line.split(COMMA)
+        return tuple(kind.value(field) for kind, field in zip(self.kinds, fields))
+
+    def refusal(self, name, label, number):
+        return line_of(name, label, *[""] * self.between, number)
+
+    def written(self, name, label, outcome):
+        """The line of an answer: of its fields, or of the number of a refusal."""
+        if not isinstance(outcome, tuple):
+            return self.refusal(name, label, outcome)
+        return line_of(name, label, *outcome, 0)
+
+    # Long lists ask for the same many times.
+    @lru_cache(maxsize=20000)
+    def outcome_of(self, label, *numbers):
+        """What stands between law and code, or the number of the refusal."""
+        try:
+            return tuple(self.ask(label, *numbers))
+        except Refused as refused:
+            return refused.number
+
+    def answer_line(self, line):
+        """The answer to one line after the header, both without CRLF."""
+        fault = self.fault_of(line)
+        if fault is not None:
+            return self.refusal("?", "?", fault)
+        name, label, *numbers = self.values_of(line)
+        return self.written(name, label, self.outcome_of(label, *numbers))
+
+
+def reading_of(law, r, r0, *places):
+    _, step = read(law, *places, r, r0)
+    return (step,)
+
+
+def certificate_of(subrange, *ratios):
+    _, *places = certify(subrange, dict(zip(CELLS, ratios)))
+    return places
+
+
+def measured_of(subrange, *resistances):
+    pairs = zip(resistances[::2], resistances[1::2])
+    _, *places = certify_measured(subrange, dict(zip(CELLS, pairs)))
+    return places
+
+
+def ratio_of(law, step, *places):
+    _, w = forward(law, *places, step)
+    return (w,)
+
+
+def verdict_of(letter, bath, r, r0):
+    _, passes, error = tolerance(ord(letter), bath, r, r0)
+    return "pass" if passes else "fail", error
+
+
+READINGS = List(
+    "readings",
+    {"id": ID, "law": WORD, "r": RESISTANCE, "r0": RESISTANCE, **PLACES},
+    b"id,law,t,code",
+    reading_of,
+)
+RATIOS = List(
+    "ratios",
+    {"id": ID, "subrange": WORD, **dict.fromkeys(CELL_NAMES, COUNT)},
+    b"id,law,a,b,c,d,wal,code",
+    certificate_of,
+)
+RESISTANCES = List(
+    "resistances",
+    {
+        "id": ID,
+        "subrange": WORD,
+        **{name + end: RESISTANCE for name in CELL_NAMES for end in ("", "0")},
+    },
+    b"id,law,a,b,c,d,wal,code",
+    measured_of,
+)
+FORWARD = List(
+    "forward",
+    {"id": ID, "law": WORD, "t": SIGNED, **PLACES},
+    b"id,law,w,code",
+    ratio_of,
+)
+TOLERANCE = List(
+    "tolerance",
+    {"id": ID, "class": LETTER, "t": SIGNED, "r": RESISTANCE, "r0": RESISTANCE},
+    b"id,class,result,error,code",
+    verdict_of,
+)
+
+# The lists that a program knows by their headers. An unknown header is answered
+# as by the first.
+PROGRAMS = {
+    "launchlist": (READINGS,),
+    "benchlist": (RATIOS, RESISTANCES, FORWARD, TOLERANCE),
+}
+
+LISTS = {one.name: one for known in PROGRAMS.values() for one in known}
+
+PROGRAM_OF = {one: program for program, known in PROGRAMS.items() for one in known}
+
+
+def lines_of(data):
+    """The lines without their CRLF."""
+    lines = data.split(LINE_END)
+    # Nothing after the last CRLF is no line, and so is nothing at all.
+    if lines[-1] == b"":
+        lines.pop()
+    return lines
+
+
+def joined(lines):
+    """The lines, each with its CRLF."""
+    return b"".join(line + LINE_END for line in lines)
+
+
+def answer(program, data):
+    """All that the program writes where it reads `data`."""
+    lines = lines_of(data)
+    for known in PROGRAMS[program]:
+        # An empty input has no header, hence a wrong one.
+        if lines[:1] == [known.header]:
+            return joined([known.answer_header, *map(known.answer_line, lines[1:])])
+    first = PROGRAMS[program][0]
+    return joined([first.answer_header, first.refusal("?", "?", WRONG_HEADER)])

@@ -1,0 +1,299 @@
+"""Streams lists through the built `launchlist` and `benchlist` and compares every
+line that comes out with the one computed here.
+
+    python3 second/streams.py START FOLDER
+
+START runs a program of FOLDER: START FOLDER/launchlist. The lists are the families
+of cases, lists with damages in them, cut and with wrong headers, and very long ones.
+Prints the first failures and, last, how many lines passed and failed.
+"""
+
+import sys
+
+# A test run leaves nothing behind in the folder.
+sys.dont_write_bytecode = True
+
+import os
+import subprocess
+from collections import Counter
+from concurrent.futures import ProcessPoolExecutor, as_completed
+from dataclasses import dataclass, field
+from itertools import zip_longest
+from pathlib import Path
+
+import damage
+import families
+import long_lists
+from cases import CheckFailed, Generator
+from family import check_family, code_of, part, parts
+from inputs import example, listed
+from lists import (
+    LINE_END,
+    LISTS,
+    PROGRAM_OF,
+    PROGRAMS,
+    READINGS,
+    WRONG_LINE,
+    answer,
+    joined,
+    lines_of,
+)
+from messages import said, shown
+from promises import Survey
+from samples import GOOD, NEXT, drawn_lines
+
+USAGE = """\
+usage: python3 second/streams.py START FOLDER
+START runs a program of FOLDER, which has launchlist and benchlist.
+"""
+
+LIMIT = 300  # seconds after which a run that has not ended is ended
+WORKERS = max(2, os.cpu_count() or 2)
+SHOWN = 20  # failures
+
+
+@dataclass
+class Found:
+    """What a job found: how many lines passed, what is wrong with the others, and
+    what the cases met."""
+
+    name: str
+    passed: int = 0
+    failed: int = 0
+    wrong: list = field(default_factory=list)
+    survey: Survey = field(default_factory=Survey)
+    codes: Counter = field(default_factory=Counter)
+
+    def fail(self, what):
+        self.failed += 1
+        if len(self.wrong) < SHOWN:
+            self.wrong.append(f"{self.name}: {what}")
+
+
+class Programs:
+    """The built programs."""
+
+    def __init__(self, start, folder):
+        self.start = start
+        self.folder = Path(folder)
+
+    def command(self, program):
+        return [self.start, str(self.folder / program)]
+
+    def run(self, program, data, found):
+        """What the program writes, on standard error what is to be said."""
+        try:
+            ended = subprocess.run(
+                self.command(program), input=data, capture_output=True, timeout=LIMIT
+            )
+        except subprocess.TimeoutExpired:
+            found.fail(f"{program} has not ended within {LIMIT} s")
+            return b""
+        if ended.returncode != 0:
+            found.fail(f"{program} ended with status {ended.returncode}")
+        if ended.stderr != said(program, data):
+            found.fail(f"{program} says on standard error: {shown(ended.stderr)}")
+        return ended.stdout
+
+
+def compare(found, one, lines, dues, out):
+    """Compares what came with the answers due to the lines."""
+    came = out.split(LINE_END)
+    if came.pop() != b"":
+        found.fail("what came does not end with CRLF")
+    if len(came) != len(dues) + 1:
+        found.fail(f"{len(came)} lines came, due {len(dues) + 1}")
+    if came[:1] != [one.answer_header]:
+        found.fail(f"header {shown(came[0] if came else None)} came")
+    for line, got, due in zip_longest(lines, came[1:], dues):
+        if got == due:
+            found.passed += 1
+        else:
+            found.fail(f"line {shown(line)} came {shown(got)} due {shown(due)}")
+
+
+# The families of cases.
+
+
+def family_job(programs, number, first):
+    family = families.FAMILIES[number]
+    found = Found(family.name)
+    try:
+        made = part(family, first, found.survey)
+    except CheckFailed as failed:
+        found.fail(f"check failed: {failed}")
+        return found
+    for one, pairs in made.items():
+        lines, dues = zip(*pairs)
+        out = programs.run(PROGRAM_OF[one], listed(one, *lines), found)
+        compare(found, one, lines, dues, out)
+        found.codes.update((one.name, code_of(due)) for due in dues)
+    return found
+
+
+# Damaged lists.
+
+DAMAGE_SEED = 801
+DRAWN_LINES = 400
+DRAWN_CHANGES = 4000
+
+
+def damaged_pieces(one, generator):
+    """What stands between good lines, CRLFs included: ill-formed lines, good ones
+    with a byte replaced, with fields exchanged, and with drawn changes."""
+    line = drawn_lines(one, generator, DRAWN_LINES)
+    for kind, damaged in damage.ill_formed_cases(one, line):
+        if one.fault_of(damaged) is None:
+            raise CheckFailed(f"{one.name}: {kind}, {damaged} is not ill-formed")
+        yield damaged + LINE_END
+    for good in (GOOD[one], NEXT[one], line()):
+        yield from damage.flips(good + LINE_END)
+        for damaged in damage.field_changes(good):
+            yield damaged + LINE_END
+    for _ in range(DRAWN_CHANGES):
+        yield damage.changed(generator, line()) + LINE_END
+
+
+def damage_job(programs, name):
+    """One list with every damage in it, a good line after each."""
+    one = LISTS[name]
+    found = Found(f"damaged {name}")
+    generator = Generator(DAMAGE_SEED)
+    good = drawn_lines(one, generator, DRAWN_LINES)
+    try:
+        pieces = [p + good() + LINE_END for p in damaged_pieces(one, generator)]
+    except CheckFailed as failed:
+        found.fail(f"check failed: {failed}")
+        return found
+    data = listed(one) + b"".join(pieces)
+    _, *lines = lines_of(data)
+    _, *dues = lines_of(answer(PROGRAM_OF[one], data))
+    compare(found, one, lines, dues, programs.run(PROGRAM_OF[one], data, found))
+    codes = Counter(map(code_of, dues))
+    ill_formed = sum(codes[code] for code in WRONG_LINE)
+    if ill_formed < len(pieces) // 2 or codes[0] < len(pieces):
+        found.fail(f"of {len(pieces)} damages come {codes}")
+    return found
+
+
+def small_inputs(one):
+    """A small list cut at every place, and after a damaged header a good line."""
+    for data in damage.cuts(example(one)):
+        yield f"cut to {len(data)} bytes", data
+    for kind, header in damage.header_damages(one):
+        yield f"header, {kind}", joined([header, GOOD[one]])
+
+
+def cut_job(programs, name, turn, turns):
+    """The small inputs of one of so many turns, each run by itself."""
+    one = LISTS[name]
+    found = Found(f"cut {name}")
+    for kind, data in list(small_inputs(one))[turn::turns]:
+        out = programs.run(PROGRAM_OF[one], data, found)
+        due = answer(PROGRAM_OF[one], data)
+        if out == due:
+            found.passed += 1
+        else:
+            found.fail(f"{kind}, {shown(data)} came {shown(out)} due {shown(due)}")
+    return found
+
+
+# Long lists.
+
+
+def long_job(programs, name, count):
+    """A list of so many lines through a pipe; it counts as one line."""
+    one = LISTS[name]
+    found = Found(f"long {name}")
+    for what in long_lists.run(programs.command(PROGRAM_OF[one]), one, count, LIMIT):
+        found.fail(what)
+    if found.failed == 0:
+        found.passed += 1
+    return found
+
+
+# All jobs.
+
+LONG = 1000000  # lines of the longest list; the others have a tenth
+CUT_TURNS = 4
+
+
+def jobs():
+    """Each job and its arguments, the longest first."""
+    for name in LISTS:
+        yield long_job, name, LONG if name == READINGS.name else LONG // 10
+    for name in LISTS:
+        yield damage_job, name
+    for name in LISTS:
+        for turn in range(CUT_TURNS):
+            yield cut_job, name, turn, CUT_TURNS
+    for number, family in enumerate(families.FAMILIES):
+        for first in parts(family):
+            yield family_job, number, first
+
+
+class Sum:
+    """What all jobs found."""
+
+    def __init__(self):
+        self.passed = 0
+        self.failed = 0
+        self.codes = Counter()
+        self.surveys = {}
+
+    def add(self, found):
+        for what in found.wrong[: max(0, SHOWN - self.failed)]:
+            print(what, flush=True)
+        self.passed += found.passed
+        self.failed += found.failed
+        self.codes += found.codes
+        self.surveys.setdefault(found.name, Survey()).add(found.survey)
+
+    def check(self, test, *arguments):
+        try:
+            test(*arguments)
+        except CheckFailed as failed:
+            self.failed += 1
+            print(f"check failed: {failed}", flush=True)
+
+    def check_met(self):
+        """That the families met everything."""
+        orders = Counter()
+        for family in families.FAMILIES:
+            survey = self.surveys[family.name]
+            self.check(check_family, family, survey.seen)
+            orders += survey.orders
+        self.check(families.check_orders, orders)
+        self.check(families.check_codes, self.codes)
+
+
+def all_jobs(programs):
+    """The sum of all jobs, some of them made at a time."""
+    for program in PROGRAMS:
+        if not (programs.folder / program).is_file():
+            raise FileNotFoundError(f"{programs.folder / program} is missing")
+    total = Sum()
+    with ProcessPoolExecutor(WORKERS) as pool:
+        made = [pool.submit(job, programs, *arguments) for job, *arguments in jobs()]
+        for future in as_completed(made):
+            total.add(future.result())
+    total.check_met()
+    return total
+
+
+def main(arguments):
+    if len(arguments) != 2:
+        sys.stderr.write(USAGE)
+        return 2
+    total = Sum()
+    try:
+        total = all_jobs(Programs(*arguments))
+    except OSError as error:
+        print(f"streams: cannot be run: {error}")
+        total.failed += 1
+    print(f"streams: {total.passed} passed, {total.failed} failed")
+    return 0 if total.failed == 0 else 1
+
+
+if __name__ == "__main__":
+    sys.exit(main(sys.argv[1:]))

@@ -1,0 +1,140 @@
+"""Families of tolerance tests: section "The curve"."""
+
+import curve
+import promises
+from draws import CURVE_EDGES, EDGE_PAIRS, LETTERS, around
+from family import Family, Line, for_each
+from lists import TOLERANCE
+from promises import outcome, whole_limit
+from quantity import DIVISOR_LEAST, RATIO_ONE, RESISTANCE_MOST
+from reading import tolerance
+
+
+def judged(letter, bath, r, r0, survey):
+    """The line of a tolerance test, its promises tested."""
+    answer = outcome(tolerance, ord(letter), bath, r, r0)
+    promises.check_tolerance(ord(letter), bath, r, r0, answer, survey)
+    result = answer
+    if isinstance(answer, tuple):
+        _, passes, error = answer
+        result = ("pass" if passes else "fail", error)
+    return Line(TOLERANCE, (letter, bath, r, r0), result)
+
+
+# Bench card 10 and its like: each class at these baths, an error of the whole
+# limit and of one step more, above and below.
+LIMIT_BATHS = (0, -2000000, 6500000, 8500000)
+LIMIT_CASES = 2 * len(LIMIT_BATHS) * 2 * 2
+
+EDGE_BATH = (
+    -2000001,
+    -2000000,
+    -1999999,
+    0,
+    6500000,
+    6500001,
+    8499999,
+    8500000,
+    8500001,
+)
+
+
+def limit_case(i):
+    """The class, the bath and the step that is to be read."""
+    letter = "AB"[i // 16]
+    bath = LIMIT_BATHS[i // 4 % 4]
+    error = whole_limit(ord(letter), bath) + i % 2
+    return letter, bath, bath - error if i // 2 % 2 else bath + error
+
+
+def letter_for(generator):
+    kind = generator.under(7)
+    free = LETTERS[generator.under(len(LETTERS))]
+    return "AAABBB"[kind] if kind < 6 else free
+
+
+def bath_for(generator):
+    if generator.under(4) == 0:
+        return EDGE_BATH[generator.under(len(EDGE_BATH))]
+    return generator.under(10500001) - 2000000
+
+
+def aim_for(generator, letter, bath):
+    """A step about either limit, near the bath or anywhere, None for no aim."""
+    limit = whole_limit(ord(letter), bath)
+    kind = generator.under(5)
+    if kind == 0:
+        # An aim nearly always reads one step low.
+        return bath + limit + generator.under(3)
+    if kind == 1:
+        return bath - limit - 1 + generator.under(3)
+    if kind == 2:
+        return bath + around(generator, 10000)
+    if kind == 3:
+        return generator.under(10500001) - 2000000
+    return None
+
+
+EDGE_DIVISOR = (
+    DIVISOR_LEAST - 1,
+    DIVISOR_LEAST,
+    25000000000,
+    100000000000,
+    RESISTANCE_MOST,
+    RESISTANCE_MOST + 1,
+)
+
+
+def unaimed(generator):
+    """R and R0 of a ratio at an end of the curve or at 4.4, or about any."""
+    w = CURVE_EDGES[generator.under(len(CURVE_EDGES))]
+    r = generator.under(RESISTANCE_MOST + 2)
+    r0 = EDGE_DIVISOR[generator.under(len(EDGE_DIVISOR))]
+    return (100 * w, 100 * RATIO_ONE) if generator.under(3) == 0 else (r, r0)
+
+
+def tolerance_case(generator, i, survey):
+    if i < LIMIT_CASES:
+        letter, bath, aim = limit_case(i)
+        # A unit more than the aim's ratio reads the aim itself.
+        more = 100
+    else:
+        letter = letter_for(generator)
+        bath = bath_for(generator)
+        aim = aim_for(generator, letter, bath)
+        more = generator.under(100)
+    if aim is not None and curve.FIRST <= aim <= curve.LAST:
+        r, r0 = curve.forward(aim) * 100 + more, 100 * RATIO_ONE
+    else:
+        r, r0 = unaimed(generator)
+    return [judged(letter, bath, r, r0, survey)]
+
+
+def classes_case(generator, i, survey):
+    """Every letter, bath edge and pair of limits, then any of everything."""
+    if i < len(LETTERS):
+        return [judged(LETTERS[i], 0, 10**11, 10**11, survey)]
+    letter = "AB"[i % 2]
+    at = (i - len(LETTERS)) // 2
+    if at < len(EDGE_BATH):
+        return [judged(letter, EDGE_BATH[at], 10**11, 10**11, survey)]
+    at -= len(EDGE_BATH)
+    if at < len(EDGE_PAIRS):
+        return [judged(letter, 0, *EDGE_PAIRS[at], survey)]
+    letter = "ABABABCDa"[generator.under(9)]
+    bath = generator.under(11000000) - 2200000
+    r, r0 = generator.under(450000000000), 100 * RATIO_ONE
+    if generator.under(4) == 0:
+        r, r0 = EDGE_PAIRS[generator.under(len(EDGE_PAIRS))]
+    return [judged(letter, bath, r, r0, survey)]
+
+
+# The families.
+
+JUDGED = ("pass", "fail", "bath 8", "bath 9", 1, 2, 8, 9)
+TOLERANCE_LEAST = {**for_each("AB", JUDGED, 3), ("unknown", 3): 100}
+
+FAMILIES = (
+    Family("tolerance", 712, 10000, tolerance_case, TOLERANCE_LEAST),
+    Family("classes", 713, 3000, classes_case, TOLERANCE_LEAST),
+)
