@@ -124,6 +124,9 @@ def row_runs(one):
     yield "rows joined by LF", listed(one, good + LF + after)
     yield "rows joined by CR", listed(one, good + CR + after)
     yield "rows joined by LF CR", listed(one, good + LF + CR + after)
+    yield "rows ended by LF", listed(one) + good + LF + after + LF
+    yield "one row of four ended by LF", listed(one, good, good + LF + after, good)
+    yield "CR before each CRLF", both.replace(LINE_END, CR + LINE_END)
     yield "CR before CRLF", listed(one, good + CR, after)
     yield "LF after CRLF", listed(one, good, LF + after)
     yield "CR, letter, LF", listed(one, good + CR + b"x" + LF + after)

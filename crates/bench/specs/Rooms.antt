@@ -13,3 +13,12 @@ ratioRoom = 29 + 11
 -- Pass or fail, and an error of at most 8 digits and a minus.
 abbrev pub resultRoom : ℕ
 resultRoom = 29 + (5 + 10)
+
+-- ---- where an answer is made before it goes into the lent buffer
+-- The five places of a certificate as numbers of 64 bits, with a comma after each: four of 20 digits and a minus, one of 20.
+abbrev pub placesMost : ℕ
+placesMost = 4 * 22 + 21
+
+-- The names of a line, that, and the code with CRLF.
+abbrev pub madeIn : ℕ
+madeIn = 320

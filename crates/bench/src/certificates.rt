@@ -12,6 +12,7 @@ ghost use Rattle.row.specs.Resistances as pairs;
 ghost use Rattle.line.specs.Lent.{PlacedAs, AnsweredAs, AnsweredInto};
 ghost use Rattle.line.specs.Writing.{commaed};
 ghost use Rattle.bench.specs.Certificates.{records, resistances, placesWritten, CertificatePlaced};
+ghost use Rattle.bench.specs.Rooms.{placesMost, madeIn};
 use crate::scratch::scratch;
 use certificate::CertificateAnswer;
 use deviation::Places;
@@ -25,8 +26,8 @@ use row::ResistancesRow;
 
 // Adds the five places, with a comma after each.
 fn add_places(out: &mut [u8], at: usize, k: Places) -> usize
-    requires { ⌜ at + 109 ≤ length (now out) ⌝ }
-    ensures { λ r. ⌜ Added (now (out .entry)) at (commaed (placesWritten k)) (now (out .exit)) r × (r ≤ at + 109) ⌝ }
+    requires { ⌜ at + placesMost ≤ length (now out) ⌝ }
+    ensures { λ r. ⌜ Added (now (out .entry)) at (commaed (placesWritten k)) (now (out .exit)) r × (r ≤ at + placesMost) ⌝ }
 {
     let a = text::add_signed(out, at, k.a);
     let b = text::add_signed(out, a, k.b);
@@ -38,8 +39,8 @@ fn add_places(out: &mut [u8], at: usize, k: Places) -> usize
 }
 
 fn certificate_text(names: &[u8], k: Places, out: &mut [u8]) -> usize
-    requires { ⌜ (length (now names) ≤ longestLine) × (length (now out) ≡ 320) ⌝ }
-    ensures { λ r. ⌜ Added (now (out .entry)) 0 (now (names .entry) ++ commaed (placesWritten k) ++ ascii "0\r\n") (now (out .exit)) r × (r ≤ 320) ⌝ }
+    requires { ⌜ (length (now names) ≤ longestLine) × (length (now out) ≡ madeIn) ⌝ }
+    ensures { λ r. ⌜ Added (now (out .entry)) 0 (now (names .entry) ++ commaed (placesWritten k) ++ ascii "0\r\n") (now (out .exit)) r × (r ≤ madeIn) ⌝ }
 {
     let at = text::add(out, 0, names);
     let end = add_places(out, at, k);

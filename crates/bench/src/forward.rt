@@ -11,6 +11,7 @@ ghost use Rattle.text.specs.Writing.{Added};
 ghost use Rattle.row.specs.Forward.{columns, rowOf};
 ghost use Rattle.line.specs.Lent.{PlacedAs, AnsweredAs, AnsweredInto};
 ghost use Rattle.bench.specs.Forward.{steps};
+ghost use Rattle.bench.specs.Rooms.{madeIn};
 use crate::scratch::scratch;
 use line::LineAnswer;
 use line::Placing;
@@ -21,8 +22,8 @@ use row::ForwardParsed;
 use row::ForwardRow;
 
 fn ratio_text(names: &[u8], w: Ratio, out: &mut [u8]) -> usize
-    requires { ⌜ (length (now names) ≤ longestLine) × (length (now out) ≡ 320) ⌝ }
-    ensures { λ r. ⌜ Added (now (out .entry)) 0 (now (names .entry) ++ decimal (w .0) ++ ascii ",0\r\n") (now (out .exit)) r × (r ≤ 320) ⌝ }
+    requires { ⌜ (length (now names) ≤ longestLine) × (length (now out) ≡ madeIn) ⌝ }
+    ensures { λ r. ⌜ Added (now (out .entry)) 0 (now (names .entry) ++ decimal (w .0) ++ ascii ",0\r\n") (now (out .exit)) r × (r ≤ madeIn) ⌝ }
 {
     let at = text::add(out, 0, names);
     let end = text::add_number(out, at, w.0);

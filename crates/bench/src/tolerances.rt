@@ -11,6 +11,7 @@ ghost use Rattle.text.specs.Writing.{Added};
 ghost use Rattle.row.specs.Tolerances.{columns, rowOf};
 ghost use Rattle.line.specs.Lent.{PlacedAs, AnsweredAs, AnsweredInto};
 ghost use Rattle.bench.specs.Tolerances.{tolerances, resultWord};
+ghost use Rattle.bench.specs.Rooms.{madeIn};
 use crate::scratch::scratch;
 use line::LineAnswer;
 use line::Placing;
@@ -30,8 +31,8 @@ fn add_result(out: &mut [u8], at: usize, passes: bool) -> usize
 }
 
 fn result_text(names: &[u8], passes: bool, error: i64, out: &mut [u8]) -> usize
-    requires { ⌜ (length (now names) ≤ longestLine) × (length (now out) ≡ 320) ⌝ }
-    ensures { λ r. ⌜ Added (now (out .entry)) 0 (now (names .entry) ++ (resultWord passes ++ ascii ",") ++ (signedDecimal error ++ ascii ",") ++ ascii "0\r\n") (now (out .exit)) r × (r ≤ 320) ⌝ }
+    requires { ⌜ (length (now names) ≤ longestLine) × (length (now out) ≡ madeIn) ⌝ }
+    ensures { λ r. ⌜ Added (now (out .entry)) 0 (now (names .entry) ++ (resultWord passes ++ ascii ",") ++ (signedDecimal error ++ ascii ",") ++ ascii "0\r\n") (now (out .exit)) r × (r ≤ madeIn) ⌝ }
 {
     let at = text::add(out, 0, names);
     let result = add_result(out, at, passes);

@@ -1,6 +1,7 @@
 // A row of a list of steps to be taken forward: id, law, t and the five places of a certificate.
 ghost use mathlib.Core.Path.{_≡_};
 ghost use Rattle.row.specs.Forward.{stated, parsedAs};
+use crate::digits::DIGITS;
 use certificate::Given;
 use deviation::Places;
 use law::Name;
@@ -32,12 +33,12 @@ pub fn parse_forward(line: &[u8]) -> ForwardParsed
         return ForwardParsed::IllFormed;
     }
     let law = name_at(line, after_id(line));
-    let t = signed_at(line, law.next, 13);
-    let a = signed_at(line, t.next, 13);
-    let b = signed_at(line, a.next, 13);
-    let c = signed_at(line, b.next, 13);
-    let d = signed_at(line, c.next, 13);
-    let wal = number_at(line, d.next, 13);
+    let t = signed_at(line, law.next, DIGITS);
+    let a = signed_at(line, t.next, DIGITS);
+    let b = signed_at(line, a.next, DIGITS);
+    let c = signed_at(line, b.next, DIGITS);
+    let d = signed_at(line, c.next, DIGITS);
+    let wal = number_at(line, d.next, DIGITS);
     if wal.next != line.len() + 1 {
         return ForwardParsed::IllFormed;
     }

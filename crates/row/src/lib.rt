@@ -1,4 +1,5 @@
 // The rows of each kind of list: what a line says by its columns, or that it is no row.
+mod digits;
 mod forward;
 mod readings;
 mod records;

@@ -1,6 +1,7 @@
 // A row of a list of readings: id, law, r, r0 and the five places of a certificate.
 ghost use mathlib.Core.Path.{_≡_};
 ghost use Rattle.row.specs.Readings.{stated, parsedAs};
+use crate::digits::DIGITS;
 use certificate::Given;
 use deviation::Places;
 use law::Name;
@@ -33,13 +34,13 @@ pub fn parse_reading(line: &[u8]) -> ReadingParsed
         return ReadingParsed::IllFormed;
     }
     let law = name_at(line, after_id(line));
-    let r = number_at(line, law.next, 13);
-    let r0 = number_at(line, r.next, 13);
-    let a = signed_at(line, r0.next, 13);
-    let b = signed_at(line, a.next, 13);
-    let c = signed_at(line, b.next, 13);
-    let d = signed_at(line, c.next, 13);
-    let wal = number_at(line, d.next, 13);
+    let r = number_at(line, law.next, DIGITS);
+    let r0 = number_at(line, r.next, DIGITS);
+    let a = signed_at(line, r0.next, DIGITS);
+    let b = signed_at(line, a.next, DIGITS);
+    let c = signed_at(line, b.next, DIGITS);
+    let d = signed_at(line, c.next, DIGITS);
+    let wal = number_at(line, d.next, DIGITS);
     if wal.next != line.len() + 1 {
         return ReadingParsed::IllFormed;
     }

@@ -1,6 +1,7 @@
 // A row of a list of records: id, subrange and a ratio for each cell.
 ghost use mathlib.Core.Path.{_≡_};
 ghost use Rattle.row.specs.Records.{stated, parsedAs};
+use crate::digits::DIGITS;
 use certificate::Record;
 use law::Name;
 use quantity::Ratio;
@@ -28,13 +29,13 @@ pub fn parse_record(line: &[u8]) -> RecordParsed
         return RecordParsed::IllFormed;
     }
     let subrange = name_at(line, after_id(line));
-    let hg = number_at(line, subrange.next, 13);
-    let ga = number_at(line, hg.next, 13);
-    let indium = number_at(line, ga.next, 13);
-    let sn = number_at(line, indium.next, 13);
-    let zn = number_at(line, sn.next, 13);
-    let al = number_at(line, zn.next, 13);
-    let ag = number_at(line, al.next, 13);
+    let hg = number_at(line, subrange.next, DIGITS);
+    let ga = number_at(line, hg.next, DIGITS);
+    let indium = number_at(line, ga.next, DIGITS);
+    let sn = number_at(line, indium.next, DIGITS);
+    let zn = number_at(line, sn.next, DIGITS);
+    let al = number_at(line, zn.next, DIGITS);
+    let ag = number_at(line, al.next, DIGITS);
     if ag.next != line.len() + 1 {
         return RecordParsed::IllFormed;
     }

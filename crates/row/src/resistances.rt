@@ -4,6 +4,7 @@ ghost use Prim.Native.Nat.{_≤_};
 ghost use lib.ListN.{length};
 ghost use Rattle.text.specs.Columns.{longestLine};
 ghost use Rattle.row.specs.Resistances.{pairAt, stated, parsedAs};
+use crate::digits::DIGITS;
 use certificate::Pair;
 use certificate::Resistances;
 use law::Name;
@@ -34,8 +35,8 @@ fn pair_at(line: &[u8], from: usize) -> PairAt
     requires { ⌜ length (now line) ≤ longestLine ⌝ }
     ensures { λ x. ⌜ x ≡ pairAt (now (line .entry)) from ⌝ }
 {
-    let r = number_at(line, from, 13);
-    let r0 = number_at(line, r.next, 13);
+    let r = number_at(line, from, DIGITS);
+    let r0 = number_at(line, r.next, DIGITS);
     PairAt {
         pair: Pair {
             r: Nanoohm(r.value),

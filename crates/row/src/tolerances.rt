@@ -1,6 +1,7 @@
 // A row of a list of tolerance tests: id, class, t, r and r0.
 ghost use mathlib.Core.Path.{_≡_};
 ghost use Rattle.row.specs.Tolerances.{stated, parsedAs};
+use crate::digits::DIGITS;
 use quantity::Celsius;
 use quantity::Nanoohm;
 use text::LONGEST_LINE;
@@ -31,9 +32,9 @@ pub fn parse_tolerance(line: &[u8]) -> ToleranceParsed
         return ToleranceParsed::IllFormed;
     }
     let class = letter_at(line, after_id(line));
-    let t = signed_at(line, class.next, 13);
-    let r = number_at(line, t.next, 13);
-    let r0 = number_at(line, r.next, 13);
+    let t = signed_at(line, class.next, DIGITS);
+    let r = number_at(line, t.next, DIGITS);
+    let r0 = number_at(line, r.next, DIGITS);
     if r0.next != line.len() + 1 {
         return ToleranceParsed::IllFormed;
     }
