@@ -19,6 +19,6 @@ resultRoom = 29 + (5 + 10)
 abbrev pub placesMost : ℕ
 placesMost = 4 * 22 + 21
 
--- The names of a line, that, and the code with CRLF.
+-- The names of a line, at most 200 bytes; those places; and 11 bytes, more than the code with CRLF takes.
 abbrev pub madeIn : ℕ
 madeIn = 320
