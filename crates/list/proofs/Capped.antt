@@ -61,18 +61,18 @@ pub front-next : {p q : List ℕ} → Alike p q → (g : Stage) → next g (allB
 front-next (equal e) g = ap (λ (line : List ℕ). next g (allButLast line)) e
 front-next {p} {q} (over hp hq e l) g = over-next (allButLast p) (allButLast q) (front-over p hp) (front-over q hq) g
 
-front-all : {p q : List ℕ} → Alike p q → (g later : Stage) (others : List (List ℕ)) (text : List ℕ) → DueToAll g (allButLast p ∷ others) text later → DueToAll g (allButLast q ∷ others) text later
-front-all a g later others text (n, first, rest, due, more, e) =
-    (n, first, rest, front-due a g n first due, subst (λ (g′ : Stage). DueToAll g′ others rest later) (front-next a g) more, e)
+front-all : {p q : List ℕ} → Alike p q → (g later : Stage) (others : List (List ℕ)) (ns text : List ℕ) → DueToAll g (allButLast p ∷ others) ns text later → DueToAll g (allButLast q ∷ others) ns text later
+front-all a g later others ns text (n, first, more, rest, due, all, i, e) =
+    (n, first, more, rest, front-due a g n first due, subst (λ (g′ : Stage). DueToAll g′ others more rest later) (front-next a g) all, i, e)
 
-pub alike-all : {p q : List ℕ} → Alike p q → (s : List ℕ) (g later : Stage) (text : List ℕ) → DueToAll g (ended p s) text later → DueToAll g (ended q s) text later
-alike-all a [] g later text d = d
-alike-all {p} {q} a (b ∷ s) g later text d = by (endsLine p b) (endsLine q b) (alike-ends a b) (alike-all (alike-byte a b) s g later text) d
+pub alike-all : {p q : List ℕ} → Alike p q → (s : List ℕ) (g later : Stage) (ns text : List ℕ) → DueToAll g (ended p s) ns text later → DueToAll g (ended q s) ns text later
+alike-all a [] g later ns text d = d
+alike-all {p} {q} a (b ∷ s) g later ns text d = by (endsLine p b) (endsLine q b) (alike-ends a b) (alike-all (alike-byte a b) s g later ns text) d
   where
-    by : (t u : Bool) → t ≡ u → (DueToAll g (ended (p ++ (b ∷ [])) s) text later → DueToAll g (ended (q ++ (b ∷ [])) s) text later)
-        → DueToAll g (if t then allButLast p ∷ ended [] s else ended (p ++ (b ∷ [])) s) text later
-        → DueToAll g (if u then allButLast q ∷ ended [] s else ended (q ++ (b ∷ [])) s) text later
-    by true true e k d = front-all a g later (ended [] s) text d
+    by : (t u : Bool) → t ≡ u → (DueToAll g (ended (p ++ (b ∷ [])) s) ns text later → DueToAll g (ended (q ++ (b ∷ [])) s) ns text later)
+        → DueToAll g (if t then allButLast p ∷ ended [] s else ended (p ++ (b ∷ [])) s) ns text later
+        → DueToAll g (if u then allButLast q ∷ ended [] s else ended (q ++ (b ∷ [])) s) ns text later
+    by true true e k d = front-all a g later (ended [] s) ns text d
     by true false e k d = absurd (true≢false e)
     by false true e k d = absurd (true≢false (sym e))
     by false false e k d = k d
@@ -98,10 +98,10 @@ module _ (line : List ℕ) where
   pub capped-next : (g : Stage) → next g (allButLast (capped line)) ≡ next g (allButLast line)
   capped-next = front-next (capped-alike line)
 
-  pub capped-all : (s : List ℕ) (g later : Stage) (text : List ℕ) → DueToAll g (ended (capped line) s) text later → DueToAll g (ended line s) text later
+  pub capped-all : (s : List ℕ) (g later : Stage) (ns text : List ℕ) → DueToAll g (ended (capped line) s) ns text later → DueToAll g (ended line s) ns text later
   capped-all = alike-all (capped-alike line)
 
-  pub all-capped : (s : List ℕ) (g later : Stage) (text : List ℕ) → DueToAll g (ended line s) text later → DueToAll g (ended (capped line) s) text later
+  pub all-capped : (s : List ℕ) (g later : Stage) (ns text : List ℕ) → DueToAll g (ended line s) ns text later → DueToAll g (ended (capped line) s) ns text later
   all-capped = alike-all (alike-sym (capped-alike line))
 
   pub capped-at-end : (g : Stage) (n : ℕ) (t : List ℕ) → DueAtEnd g (capped line) n t → DueAtEnd g line n t

@@ -1,4 +1,4 @@
--- What is due to lines: to some after others, and that it is one text, which is short.
+-- What is due to lines: to some after others, and that it is one text with its numbers, which is short.
 use mathlib.Core.Path.{_≡_, refl, sym, ap, ap₂, _∙_, subst}
 use mathlib.Core.List.{List, [], _∷_, _++_, append-assoc, append-nil}
 use mathlib.Core.Option.{Option, none, some}
@@ -19,34 +19,48 @@ use Rattle.list.specs.Promised.{roomAt}
 use Rattle.list.proofs.OfKinds.{one-answer-of, answers-fit-of, numbers-few-of}
 use Rattle.list.proofs.Headers.{header-short}
 
-pub due-append : (g between later : Stage) (x y : List (List ℕ)) (t u : List ℕ) → DueToAll g x t between → DueToAll between y u later → DueToAll g (x ++ y) (t ++ u) later
-due-append g between later [] y t u (e, f) k = subst (λ (s : List ℕ). DueToAll g y (s ++ u) later) (sym e) (subst (λ (g′ : Stage). DueToAll g′ y u later) f k)
-due-append g between later (line ∷ x) y t u (n, first, rest, due, more, e) k =
-    (n, first, rest ++ u, due, due-append (next g line) between later x y rest u more k, ap (λ (s : List ℕ). s ++ u) e ∙ append-assoc first rest u)
+pub due-append : (g between later : Stage) (x y : List (List ℕ)) (ns ms t u : List ℕ) → DueToAll g x ns t between → DueToAll between y ms u later → DueToAll g (x ++ y) (ns ++ ms) (t ++ u) later
+due-append g between later [] y ns ms t u (i, e, f) k =
+    subst (λ (l : List ℕ). DueToAll g y (l ++ ms) (t ++ u) later) (sym i) (subst (λ (s : List ℕ). DueToAll g y ms (s ++ u) later) (sym e) (subst (λ (g′ : Stage). DueToAll g′ y ms u later) f k))
+due-append g between later (line ∷ x) y ns ms t u (n, first, more, rest, due, all, i, e) k = (
+  n,
+  first,
+  more ++ ms,
+  rest ++ u,
+  due,
+  due-append (next g line) between later x y more ms rest u all k,
+  ap (λ (l : List ℕ). l ++ ms) i,
+  ap (λ (s : List ℕ). s ++ u) e ∙ append-assoc first rest u,
+)
 
 -- one more line
-pub due-more : (g between : Stage) (lines : List (List ℕ)) (line t u : List ℕ) (n : ℕ) → DueToAll g lines t between → Due between line n u → DueToAll g (lines ++ (line ∷ [])) (t ++ u) (next between line)
-due-more g between lines line t u n h due =
-    due-append g between (next between line) lines (line ∷ []) t u h (n, u, [], due, (refl, refl), sym (append-nil u))
+pub due-more : (g between : Stage) (lines : List (List ℕ)) (line ns t u : List ℕ) (n : ℕ) → DueToAll g lines ns t between → Due between line n u
+    → DueToAll g (lines ++ (line ∷ [])) (ns ++ (n ∷ [])) (t ++ u) (next between line)
+due-more g between lines line ns t u n h due =
+    due-append g between (next between line) lines (line ∷ []) ns (n ∷ []) t u h (n, u, [], [], due, (refl, refl, refl), refl, sym (append-nil u))
 
 -- The part that is due to the first lines, and that to the others.
 pub record Parted (g later : Stage) (x y : List (List ℕ)) (text : List ℕ) : Type 0 where
   pub between : Stage
+  pub numbers : List ℕ
+  pub others : List ℕ
   pub first : List ℕ
   pub second : List ℕ
-  pub due : DueToAll g x first between
-  pub more : DueToAll between y second later
+  pub due : DueToAll g x numbers first between
+  pub more : DueToAll between y others second later
   pub both : text ≡ first ++ second
 
-pub due-parted : (g later : Stage) (x y : List (List ℕ)) (text : List ℕ) → DueToAll g (x ++ y) text later → Parted g later x y text
-due-parted g later [] y text d = record { between = g; first = []; second = text; due = (refl, refl); more = d; both = refl }
-due-parted g later (line ∷ x) y text (n, first, rest, due, more, e) =
-    let p = due-parted (next g line) later x y rest more in
+pub due-parted : (g later : Stage) (x y : List (List ℕ)) (ns text : List ℕ) → DueToAll g (x ++ y) ns text later → Parted g later x y text
+due-parted g later [] y ns text d = record { between = g; numbers = []; others = ns; first = []; second = text; due = (refl, refl, refl); more = d; both = refl }
+due-parted g later (line ∷ x) y ns text (n, first, more, rest, due, all, i, e) =
+    let p = due-parted (next g line) later x y more rest all in
     record {
       between = p .between;
+      numbers = n ∷ p .numbers;
+      others = p .others;
       first = first ++ p .first;
       second = p .second;
-      due = (n, first, p .first, due, p .due, refl);
+      due = (n, first, p .numbers, p .first, due, p .due, refl, refl);
       more = p .more;
       both = e ∙ ap (λ (s : List ℕ). first ++ s) (p .both) ∙ sym (append-assoc first (p .first) (p .second));
     }
@@ -61,12 +75,22 @@ due-unique (Header desk) line n n′ t t′ h i = header-unique desk (headed des
 due-unique (Rows k) line n n′ t t′ h i = one-answer-of k line n n′ t t′ h i
 due-unique Stopped line n n′ t t′ h k = (h .0 ∙ sym (k .0), h .1 ∙ sym (k .1))
 
-pub all-unique : (g : Stage) (lines : List (List ℕ)) (t t′ : List ℕ) (later later′ : Stage) → DueToAll g lines t later → DueToAll g lines t′ later′ → (t ≡ t′) × (later ≡ later′)
-all-unique g [] t t′ later later′ h k = (h .0 ∙ sym (k .0), h .1 ∙ sym (k .1))
-all-unique g (line ∷ lines) t t′ later later′ (n, first, rest, due, more, e) (n′, first′, rest′, due′, more′, e′) =
+-- the same numbers, the same text and the same stage after them
+pub record Same (ns ns′ t t′ : List ℕ) (later later′ : Stage) : Type 0 where
+  pub numbers : ns ≡ ns′
+  pub text : t ≡ t′
+  pub stage : later ≡ later′
+
+pub all-unique : (g : Stage) (lines : List (List ℕ)) (ns ns′ t t′ : List ℕ) (later later′ : Stage) → DueToAll g lines ns t later → DueToAll g lines ns′ t′ later′ → Same ns ns′ t t′ later later′
+all-unique g [] ns ns′ t t′ later later′ h k = record { numbers = h .0 ∙ sym (k .0); text = h .1 ∙ sym (k .1); stage = h .2 ∙ sym (k .2) }
+all-unique g (line ∷ lines) ns ns′ t t′ later later′ (n, first, more, rest, due, all, i, e) (n′, first′, more′, rest′, due′, all′, i′, e′) =
     let one = due-unique g line n n′ first first′ due due′ in
-    let others = all-unique (next g line) lines rest rest′ later later′ more more′ in
-    (e ∙ ap₂ (λ (x : List ℕ) (y : List ℕ). x ++ y) (one .1) (others .0) ∙ sym e′, others .1)
+    let others = all-unique (next g line) lines more more′ rest rest′ later later′ all all′ in
+    record {
+      numbers = i ∙ ap₂ (λ (m : ℕ) (l : List ℕ). m ∷ l) (one .0) (others .numbers) ∙ sym i′;
+      text = e ∙ ap₂ (λ (x : List ℕ) (y : List ℕ). x ++ y) (one .1) (others .text) ∙ sym e′;
+      stage = others .stage;
+    }
 
 pub at-end-unique : (g : Stage) (line : List ℕ) (n n′ : ℕ) (t t′ : List ℕ) → DueAtEnd g line n t → DueAtEnd g line n′ t′ → (n ≡ n′) × (t ≡ t′)
 at-end-unique (Header desk) [] n n′ t t′ h k = (h .0 ∙ sym (k .0), h .1 ∙ sym (k .1))
@@ -107,14 +131,14 @@ at-end-small (Rows k) (b ∷ s) n t h = due-small (Rows k) (b ∷ s) n t h
 at-end-small Stopped (b ∷ s) n t h = due-small Stopped (b ∷ s) n t h
 
 -- What is due to the first lines and the next is within what is due to all.
-pub due-within : (g between later : Stage) (before others : List (List ℕ)) (line t u text : List ℕ) (n : ℕ)
-    → DueToAll g before t between → Due between line n u → DueToAll g (before ++ (line ∷ others)) text later → length t + length u ≤ length text
-due-within g between later before others line t u text n h k all =
-    let p = due-parted g later before (line ∷ others) text all in
-    let one = all-unique g before t (p .first) between (p .between) h (p .due) in
-    within p (one .0) (subst (λ (g′ : Stage). Due g′ line n u) (one .1) k) (p .more)
+pub due-within : (g between later : Stage) (before others : List (List ℕ)) (line ns ms t u text : List ℕ) (n : ℕ)
+    → DueToAll g before ns t between → Due between line n u → DueToAll g (before ++ (line ∷ others)) ms text later → length t + length u ≤ length text
+due-within g between later before others line ns ms t u text n h k all =
+    let p = due-parted g later before (line ∷ others) ms text all in
+    let one = all-unique g before ns (p .numbers) t (p .first) between (p .between) h (p .due) in
+    within p (one .text) (subst (λ (g′ : Stage). Due g′ line n u) (one .stage) k) (p .more)
   where
-    within : (p : Parted g later before (line ∷ others) text) → t ≡ p .first → Due (p .between) line n u → DueToAll (p .between) (line ∷ others) (p .second) later → length t + length u ≤ length text
-    within p e k (n′, u′, rest, due, more, f) =
+    within : (p : Parted g later before (line ∷ others) text) → t ≡ p .first → Due (p .between) line n u → DueToAll (p .between) (line ∷ others) (p .others) (p .second) later → length t + length u ≤ length text
+    within p e k (n′, u′, more, rest, due, all, i, f) =
         let all : text ≡ t ++ (u ++ rest) = p .both ∙ ap₂ (λ (x : List ℕ) (y : List ℕ). x ++ y) (sym e) (f ∙ ap (λ (x : List ℕ). x ++ rest) (sym (due-unique (p .between) line n n′ u u′ k due .1))) in
         rw (all, length-append t (u ++ rest), length-append u rest) (omega arith)

@@ -1,5 +1,5 @@
 -- Where feeding stands between two lines, and what it has done where it returns.
-use mathlib.Core.Path.{_≡_, refl, sym, ap, _∙_, subst}
+use mathlib.Core.Path.{_≡_, refl, sym, ap, ap₂, _∙_, subst}
 use mathlib.Core.Bool.{Bool, true, false, not}
 use mathlib.Core.List.{List, [], _∷_, _++_, append-assoc, append-nil}
 use native.Mathlib.Omega.{arith}
@@ -18,12 +18,15 @@ use Rattle.list.specs.declared.state.Stage.{Stage}
 use Rattle.list.specs.declared.state.Stage.the-variants.{Header, Rows, Stopped}
 use Rattle.list.specs.declared.state.State.{State}
 use Rattle.list.specs.declared.feeding.Fed.{Fed}
-use Rattle.list.specs.declared.feeding.Reply.{Reply}
+use Rattle.list.specs.declared.feeding.Place.{Place}
+use Rattle.list.specs.declared.tally.Tally.{Tally}
+use Rattle.list.specs.declared.replies.Reply.{Reply}
 use Rattle.lines.specs.Lines.{lastByte, allButLast, endsLine, ended, begun}
 use Rattle.lines.specs.Held.{mostHeld, capped}
-use Rattle.list.specs.Feeding.{Due, next, DueToAll, DueAtEnd, lineOf, codeOf, FedAs}
+use Rattle.list.specs.Tallies.{isRefused, isFaulty, oneIf, howMany, tallyOf, withLine}
+use Rattle.list.specs.Feeding.{Due, next, DueToAll, DueAtEnd, lineOf, codeOf, Full, FedAs}
 use Rattle.lines.specs.Ends.{EndsAt}
-use Rattle.list.specs.Replies.{RepliedAs}
+use Rattle.list.specs.Replies.{RepliedAs, Standing, At, HeldAs}
 use Rattle.lines.proofs.Lines.{front-take, ends-some, ended-append, begun-append, ended-one, begun-none, ended-before, begun-before, ends-here, begun-with, ended-with}
 use Rattle.lines.proofs.Capped.{capped-ends, capped-alike, alike-sym}
 use Rattle.list.proofs.Capped.{capped-front, capped-next, front-due}
@@ -35,6 +38,7 @@ pub record Written (g : Stage) (line out out′ : List ℕ) (x : Reply) : Type 0
   pub number : ℕ
   pub text : List ℕ
   pub due : Due g line number text
+  pub code : x .placing .answer .code ≡ number
   pub wrote : x .placing .answer .wrote ≡ length text
   pub fits : length text ≤ length out
   pub bytes : out′ ≡ text ++ drop (length text) out
@@ -62,6 +66,7 @@ module _ (g : Stage) (line out out′ : List ℕ) (x : Reply) where
         number = n;
         text = t;
         due = due;
+        code = ap (λ (a : LineAnswer). a .code) (p .0);
         wrote = ap (λ (a : LineAnswer). a .wrote) (p .0);
         fits = leb-true (length t) (length out) room;
         bytes = p .1;
@@ -81,29 +86,41 @@ module _ (g : Stage) (line out out′ : List ℕ) (x : Reply) where
         bytes = p .1;
       }
 
--- ---- between two lines
--- So much of the chunk is used and so much of the buffer written: what is due to the lines that ended, and no line is begun.
-pub record At (st : State) (chunk out₀ out : List ℕ) (g : Stage) (from at : ℕ) : Type 0 where
-  pub within : from ≤ length chunk
-  pub text : List ℕ
-  pub due : DueToAll (st .stage) (ended (lineOf st) (take from chunk)) text g
-  pub nothing : begun (lineOf st) (take from chunk) ≡ []
-  pub at-is : at ≡ length text
-  pub fits : length text ≤ length out₀
-  pub bytes : out ≡ text ++ drop (length text) out₀
+-- ---- a tally
+many-more : (such : ℕ → Bool) (numbers : List ℕ) (n : ℕ) → howMany such (numbers ++ (n ∷ [])) ≡ howMany such numbers + oneIf (such n)
+many-more such [] n = omega arith
+many-more such (m ∷ numbers) n = rw (many-more such numbers n) (omega arith)
 
-pub at-start : (st : State) (chunk out : List ℕ) → st .count ≡ 0 → At st chunk out out (st .stage) 0 0
+-- one more line
+tally-more : (numbers : List ℕ) (n : ℕ) → withLine (tallyOf numbers) n ≡ tallyOf (numbers ++ (n ∷ []))
+tally-more numbers n = rw (length-append numbers (n ∷ []), many-more isRefused numbers n, many-more isFaulty numbers n)
+
+one-most : (t : Bool) → oneIf t ≤ 1
+one-most true = omega arith
+one-most false = omega arith
+
+-- ---- between two lines
+-- the place before the first line
+abbrev pub firstPlace : Stage → Place
+firstPlace g = record { stage = g; used = 0; wrote = 0; tally = tallyOf [] }
+
+pub at-start : (st : State) (chunk out : List ℕ) → st .count ≡ 0 → At st chunk out out (firstPlace (st .stage))
 at-start st chunk out e = record {
   within = omega arith;
+  numbers = [];
   text = [];
-  due = (refl, refl);
+  due = (refl, refl, refl);
   nothing = ap (λ (n : ℕ). take n (st .held)) e;
-  at-is = refl;
+  wrote = refl;
   fits = omega arith;
   bytes = refl;
+  tally = refl;
 }
 
-pub at-long : {st : State} {chunk out₀ out : List ℕ} {g : Stage} {from at : ℕ} → At st chunk out₀ out g from at → length out ≡ length out₀
+pub standing-start : (g : Stage) (chunk out : List ℕ) → Standing chunk out (firstPlace g)
+standing-start g chunk out = record { used = omega arith; wrote = omega arith; lines = omega arith; refused = omega arith; faulty = omega arith }
+
+at-long : {st : State} {chunk out₀ out : List ℕ} {p : Place} → At st chunk out₀ out p → length out ≡ length out₀
 at-long {st} {chunk} {out₀} {out} a =
     ap length (a .bytes) ∙ length-append (a .text) (drop (length (a .text)) out₀) ∙ omega (arith, length-drop (length (a .text)) out₀, a .fits)
 
@@ -114,102 +131,115 @@ code-none used bytes h = rw (le-ltb used bytes h)
 code-some : (used bytes : ℕ) → used < bytes → codeOf used bytes ≡ numberOf BufferShort
 code-some used bytes h = rw (lt-ltb used bytes h)
 
--- the same after the first bytes of the chunk
-code-on : (used rest first bytes : ℕ) → first + rest ≡ bytes → codeOf used rest ≡ codeOf (first + used) bytes
-code-on used rest first bytes e =
-    elim (decLt used rest) [
-      | yes h ↦ code-some used rest h ∙ sym (code-some (first + used) bytes (omega arith))
-      | no h ↦ code-none used rest (omega (arith, h)) ∙ sym (code-none (first + used) bytes (omega (arith, h)))
-    ]
+-- the place after one line more, in the bytes that were used and written
+abbrev pub nextPlace : Place → ℕ → Reply → Place
+nextPlace p used r = record { stage = r .stage; used = used; wrote = p .wrote + r .placing .answer .wrote; tally = withLine (p .tally) (r .placing .answer .code) }
 
--- all of the chunk is used
-pub fed-all : {st : State} {chunk out₀ out : List ℕ} {g : Stage} {from at : ℕ} (held : List ℕ) → At st chunk out₀ out g from at → length chunk ≤ from
-    → FedAs st chunk out₀ out (record { state = record { held = held; count = 0; stage = g }; used = from; wrote = at; code = 0 })
-fed-all {st} {chunk} {from = from} held a h = record {
-  within = a .within;
-  text = a .text;
-  due = a .due;
-  wrote = a .at-is;
-  fits = a .fits;
-  written = a .bytes;
-  held = sym (ap capped (a .nothing));
-  full = λ k. absurd (omega arith);
-  code = sym (code-none from (length chunk) h);
+pub standing-more : {chunk out part out′ line : List ℕ} {p : Place} {g : Stage} {used : ℕ} {r : Reply} → Standing chunk out p → p .used < used → used ≤ length chunk
+    → Written g line (drop (p .wrote) out) part r → length out′ ≡ length out → Standing chunk out′ (nextPlace p used r)
+standing-more {out = out} {p = p} {r = r} s onward within w long = record {
+  used = within;
+  wrote = omega (arith, s .wrote, w .wrote, w .fits, length-drop (p .wrote) out);
+  lines = omega (arith, s .lines);
+  refused = omega (arith, s .refused, one-most (isRefused (r .placing .answer .code)));
+  faulty = omega (arith, s .faulty, one-most (isFaulty (r .placing .answer .code)));
 }
 
-module _ {st : State} {chunk out₀ out : List ℕ} {g : Stage} {from at i : ℕ} (a : At st chunk out₀ out g from at)
-    (end : EndsAt (begun (lineOf st) (take from chunk)) (drop from chunk) i) where
-  begun-is : begun (lineOf st) (take (from + i) chunk) ≡ take i (drop from chunk)
-  begun-is = begun-before (lineOf st) chunk from i end ∙ ap (λ (l : List ℕ). l ++ take i (drop from chunk)) (a .nothing)
+-- Feeding has gone on from one place to another, whatever state and buffer it came from.
+pub record Going (chunk out₀ out : List ℕ) (first p : Place) : Type 0 where
+  pub standing : Standing chunk out p
+  pub long : length out ≡ length out₀
+  pub at : (st : State) (before : List ℕ) → At st chunk before out₀ first → At st chunk before out p
 
-  -- a line is begun that the chunk does not end
-  pub fed-begun : (held : List ℕ) (count : ℕ) → take count held ≡ capped (take i (drop from chunk)) → from + i ≡ length chunk
-      → FedAs st chunk out₀ out (record { state = record { held = held; count = count; stage = g }; used = from + i; wrote = at; code = 0 })
-  fed-begun held count e n = record {
-    within = omega arith;
-    text = a .text;
-    due = subst (λ (ls : List (List ℕ)). DueToAll (st .stage) ls (a .text) g) (sym (ended-before (lineOf st) chunk from i end)) (a .due);
-    wrote = a .at-is;
-    fits = a .fits;
-    written = a .bytes;
-    held = e ∙ ap capped (sym begun-is);
-    full = λ k. absurd (omega arith);
-    code = sym (code-none (from + i) (length chunk) (omega arith));
-  }
+pub going-start : (chunk out : List ℕ) (p : Place) → Standing chunk out p → Going chunk out out p p
+going-start chunk out p s = record { standing = s; long = refl; at = λ st before a. a }
 
-  module _ (more : from + i < length chunk) where
-    front-is : allButLast (begun (lineOf st) (take from chunk) ++ take i (drop from chunk)) ≡ take (i - 1) (drop from chunk)
-    front-is = ap (λ (l : List ℕ). allButLast (l ++ take i (drop from chunk))) (a .nothing) ∙ front-take i (drop from chunk) (end .within)
+-- From a place on, the next line of the chunk ends at i, or the chunk does.
+module _ {st : State} {chunk out₀ out : List ℕ} {p : Place} {i : ℕ} (a : At st chunk out₀ out p) (end : EndsAt [] (drop (p .used) chunk) i) where
+  abbrev part : List ℕ
+  part = take i (drop (p .used) chunk)
 
-    -- the buffer has no room for the next line's answer
-    pub fed-full : (held : List ℕ) (count : ℕ) (out′ part : List ℕ) (x : Reply) → take count held ≡ capped (take i (drop from chunk))
-        → Short g (take (i - 1) (drop from chunk)) (drop at out) part x → out′ ≡ take at out ++ part
-        → FedAs st chunk out₀ out′ (record { state = record { held = held; count = count; stage = g }; used = from + i; wrote = at; code = x .placing .answer .code })
-    fed-full held count out′ part x e short o =
-        let line : take count held ≡ capped (begun (lineOf st) (take (from + i) chunk)) = e ∙ ap capped (sym begun-is) in
-        record {
-          within = omega arith;
-          text = a .text;
-          due = subst (λ (ls : List (List ℕ)). DueToAll (st .stage) ls (a .text) g) (sym (ended-before (lineOf st) chunk from i end)) (a .due);
-          wrote = a .at-is;
-          fits = a .fits;
-          written = o ∙ ap (λ (l : List ℕ). take at out ++ l) (short .bytes) ∙ take-append-drop at out ∙ a .bytes;
-          held = line;
-          full = λ k. record {
-            ends = ap (λ (l : List ℕ). endsLine l (getD chunk (from + i) 0)) line ∙ capped-ends (begun (lineOf st) (take (from + i) chunk)) (getD chunk (from + i) 0) ∙ ends-here (lineOf st) chunk from i end more;
-            number = short .number;
-            text = short .text;
-            due =
-                subst (λ (l : List ℕ). Due g (allButLast l) (short .number) (short .text)) (sym e)
-                (front-due (alike-sym (capped-alike (take i (drop from chunk)))) g (short .number) (short .text)
-                (subst (λ (l : List ℕ). Due g l (short .number) (short .text)) (sym (front-take i (drop from chunk) (end .within))) (short .due)));
-            no-room = omega (arith, short .no-room, length-drop at out, at-long a);
-          };
-          code = short .code ∙ sym (code-some (from + i) (length chunk) more);
-        }
+  ending : EndsAt (begun (lineOf st) (take (p .used) chunk)) (drop (p .used) chunk) i
+  ending = subst (λ (l : List ℕ). EndsAt l (drop (p .used) chunk) i) (sym (a .nothing)) end
+
+  begun-is : begun (lineOf st) (take (p .used + i) chunk) ≡ part
+  begun-is = begun-before (lineOf st) chunk (p .used) i ending ∙ ap (λ (l : List ℕ). l ++ part) (a .nothing)
+
+  within-chunk : p .used + i ≤ length chunk
+  within-chunk = omega (arith, end .within, length-drop (p .used) chunk, a .within)
+
+  -- feeding ends there
+  held-there : (code : ℕ) (out′ : List ℕ) (x : Fed) → HeldAs p part code x → code ≡ codeOf (p .used + i) (length chunk) → out′ ≡ out
+      → (p .used + i < length chunk → Full (x .state) (getD chunk (p .used + i) 0) (p .wrote) (length out₀)) → FedAs st chunk out₀ out′ x
+  held-there code out′ x h is o full =
+      let used : x .used ≡ p .used + i = h .used ∙ ap (λ (n : ℕ). p .used + n) (length-take-le i (drop (p .used) chunk) (end .within)) in
+      record {
+        within = rw used within-chunk;
+        numbers = a .numbers;
+        text = a .text;
+        due = rw (used, h .stage, ended-before (lineOf st) chunk (p .used) i ending) (a .due);
+        wrote = h .wrote ∙ a .wrote;
+        fits = a .fits;
+        written = o ∙ a .bytes;
+        tally = h .tally ∙ a .tally;
+        held = rw used (h .held ∙ ap capped (sym begun-is));
+        full = λ k. rw (used, h .wrote) (full (omega (arith, used, k)));
+        code = rw used (h .code ∙ is);
+      }
+
+  -- with a line begun that the chunk does not end
+  pub fed-begun : (x : Fed) → HeldAs p part 0 x → p .used + i ≡ length chunk → FedAs st chunk out₀ out x
+  fed-begun x h n = held-there 0 out x h (sym (code-none (p .used + i) (length chunk) (omega arith))) refl (λ k. absurd (omega arith))
+
+  module _ (more : p .used + i < length chunk) where
+    front-is : allButLast (begun (lineOf st) (take (p .used) chunk) ++ part) ≡ take (i - 1) (drop (p .used) chunk)
+    front-is = ap (λ (l : List ℕ). allButLast (l ++ part)) (a .nothing) ∙ front-take i (drop (p .used) chunk) (end .within)
+
+    -- before a line whose answer the buffer has no room for
+    pub fed-full : (out′ rest : List ℕ) (r : Reply) (x : Fed) → HeldAs p part (r .placing .answer .code) x
+        → Short (p .stage) (take (i - 1) (drop (p .used) chunk)) (drop (p .wrote) out) rest r → out′ ≡ take (p .wrote) out ++ rest → FedAs st chunk out₀ out′ x
+    fed-full out′ rest r x h short o =
+        held-there (r .placing .answer .code) out′ x h (short .code ∙ sym (code-some (p .used + i) (length chunk) more)) (o ∙ ap (λ (l : List ℕ). take (p .wrote) out ++ l) (short .bytes) ∙ take-append-drop (p .wrote) out)
+        (λ k. record {
+          ends = ap (λ (l : List ℕ). endsLine l (getD chunk (p .used + i) 0)) (h .held ∙ ap capped (sym begun-is)) ∙ capped-ends (begun (lineOf st) (take (p .used + i) chunk)) (getD chunk (p .used + i) 0) ∙ ends-here (lineOf st) chunk (p .used) i ending more;
+          number = short .number;
+          text = short .text;
+          due =
+              rw (h .stage, h .held)
+              (front-due (alike-sym (capped-alike part)) (p .stage) (short .number) (short .text)
+              (subst (λ (l : List ℕ). Due (p .stage) l (short .number) (short .text)) (sym (front-take i (drop (p .used) chunk) (end .within))) (short .due)));
+          no-room = omega (arith, short .no-room, length-drop (p .wrote) out, at-long a);
+        })
 
     -- the next line is answered
-    pub at-more : (out′ part : List ℕ) (x : Reply) → Written g (take (i - 1) (drop from chunk)) (drop at out) part x → out′ ≡ take at out ++ part
-        → At st chunk out₀ out′ (x .stage) (from + i + 1) (at + x .placing .answer .wrote)
-    at-more out′ part x w o =
+    pub at-more : (out′ rest : List ℕ) (r : Reply) → Written (p .stage) (take (i - 1) (drop (p .used) chunk)) (drop (p .wrote) out) rest r → out′ ≡ take (p .wrote) out ++ rest
+        → At st chunk out₀ out′ (nextPlace p (p .used + i + 1) r)
+    at-more out′ rest r w o =
         let long : length (a .text ++ w .text) ≡ length (a .text) + length (w .text) = length-append (a .text) (w .text) in
-        let first : take at out ≡ a .text = ap (take at) (a .bytes) ∙ ap (λ (n : ℕ). take n (a .text ++ drop (length (a .text)) out₀)) (a .at-is) ∙ take-append-seam (a .text) (drop (length (a .text)) out₀) in
-        let rest : drop at out ≡ drop (length (a .text)) out₀ = ap (drop at) (a .bytes) ∙ ap (λ (n : ℕ). drop n (a .text ++ drop (length (a .text)) out₀)) (a .at-is) ∙ drop-append-seam (a .text) (drop (length (a .text)) out₀) in
+        let first : take (p .wrote) out ≡ a .text = ap (take (p .wrote)) (a .bytes) ∙ ap (λ (n : ℕ). take n (a .text ++ drop (length (a .text)) out₀)) (a .wrote) ∙ take-append-seam (a .text) (drop (length (a .text)) out₀) in
+        let others : drop (p .wrote) out ≡ drop (length (a .text)) out₀ = ap (drop (p .wrote)) (a .bytes) ∙ ap (λ (n : ℕ). drop n (a .text ++ drop (length (a .text)) out₀)) (a .wrote) ∙ drop-append-seam (a .text) (drop (length (a .text)) out₀) in
         record {
           within = omega arith;
+          numbers = a .numbers ++ (w .number ∷ []);
           text = a .text ++ w .text;
           due =
-              subst (λ (later : Stage). DueToAll (st .stage) (ended (lineOf st) (take (from + i + 1) chunk)) (a .text ++ w .text) later) (sym (w .later))
-              (subst (λ (ls : List (List ℕ)). DueToAll (st .stage) ls (a .text ++ w .text) (next g (take (i - 1) (drop from chunk))))
-              (sym (ended-with (lineOf st) chunk from i end more ∙ ap (λ (l : List ℕ). ended (lineOf st) (take from chunk) ++ (l ∷ [])) front-is))
-              (due-more (st .stage) g (ended (lineOf st) (take from chunk)) (take (i - 1) (drop from chunk)) (a .text) (w .text) (w .number) (a .due) (w .due)));
-          nothing = begun-with (lineOf st) chunk from i end more;
-          at-is = omega (arith, a .at-is, w .wrote, long);
-          fits = omega (arith, long, w .fits, length-drop at out, at-long a, a .at-is, a .fits);
+              rw (w .later, ended-with (lineOf st) chunk (p .used) i ending more, front-is)
+              (due-more (st .stage) (p .stage) (ended (lineOf st) (take (p .used) chunk)) (take (i - 1) (drop (p .used) chunk)) (a .numbers) (a .text) (w .text) (w .number) (a .due) (w .due));
+          nothing = begun-with (lineOf st) chunk (p .used) i ending more;
+          wrote = omega (arith, a .wrote, w .wrote, long);
+          fits = omega (arith, long, w .fits, length-drop (p .wrote) out, at-long a, a .wrote, a .fits);
           bytes =
-              o ∙ ap (λ (l : List ℕ). take at out ++ l) (w .bytes) ∙ rw (first, rest, drop-drop (length (w .text)) (length (a .text)) out₀, long)
+              o ∙ ap (λ (l : List ℕ). take (p .wrote) out ++ l) (w .bytes) ∙ rw (first, others, drop-drop (length (w .text)) (length (a .text)) out₀, long)
               (sym (append-assoc (a .text) (w .text) (drop (length (a .text) + length (w .text)) out₀)));
+          tally = ap₂ (λ (t : Tally) (n : ℕ). withLine t n) (a .tally) (w .code) ∙ tally-more (a .numbers) (w .number);
         }
+
+-- all of the chunk is used
+pub fed-all : {st : State} {chunk out₀ out : List ℕ} {p : Place} → At st chunk out₀ out p → length chunk ≤ p .used → (x : Fed) → HeldAs p [] 0 x → FedAs st chunk out₀ out x
+fed-all {chunk = chunk} {p = p} a h x held =
+    let none : length (drop (p .used) chunk) ≡ 0 = length-drop (p .used) chunk ∙ omega arith in
+    let end : EndsAt [] (drop (p .used) chunk) 0 = record { within = omega arith; before = refl; whole = refl; ends = λ k. absurd (omega (arith, none)) } in
+    fed-begun a end x held (omega (arith, a .within))
 
 -- ---- what is held
 -- whatever the count says, no more than all bytes
@@ -240,32 +270,50 @@ pub fed-long : {st : State} {chunk out out′ : List ℕ} {x : Fed} → FedAs st
 fed-long {st} {chunk} {out} f =
     ap length (f .written) ∙ length-append (f .text) (drop (length (f .text)) out) ∙ omega (arith, length-drop (length (f .text)) out, f .fits)
 
--- a state whose count is 0
-pub fed-from : {chunk out out′ : List ℕ} {x : Fed} (st : State) → st .count ≡ 0 → FedAs (record { held = st .held; count = 0; stage = st .stage }) chunk out out′ x → FedAs st chunk out out′ x
-fed-from {chunk} {out} {out′} {x} st e f = subst (λ (n : ℕ). FedAs (record { held = st .held; count = n; stage = st .stage }) chunk out out′ x) (sym e) f
-
 -- ---- a line that was begun before the chunk
+-- the place after it, in the bytes that were used
+abbrev pub afterHeld : ℕ → Reply → Place
+afterHeld used r = record { stage = r .stage; used = used; wrote = r .placing .answer .wrote; tally = withLine (tallyOf []) (r .placing .answer .code) }
+
+pub standing-held : {chunk out out′ line : List ℕ} {g : Stage} {used : ℕ} {r : Reply} → 1 ≤ used → used ≤ length chunk → Written g line out out′ r → length out′ ≡ length out → Standing chunk out′ (afterHeld used r)
+standing-held {r = r} some within w long = record {
+  used = within;
+  wrote = omega (arith, w .wrote, w .fits);
+  lines = omega arith;
+  refused = omega (arith, one-most (isRefused (r .placing .answer .code)));
+  faulty = omega (arith, one-most (isFaulty (r .placing .answer .code)));
+}
+
 module _ (st : State) (chunk out : List ℕ) (i : ℕ) (held : List ℕ) (count : ℕ) (end : EndsAt (lineOf st) chunk i)
     (line-is : take count held ≡ capped (lineOf st ++ take i chunk)) where
   capped-is : take count held ≡ capped (begun (lineOf st) (take i chunk))
   capped-is = line-is ∙ ap capped (sym (end .whole))
 
-  nothing-due : DueToAll (st .stage) (ended (lineOf st) (take i chunk)) [] (st .stage)
-  nothing-due = subst (λ (ls : List (List ℕ)). DueToAll (st .stage) ls [] (st .stage)) (sym (end .before)) (refl, refl)
+  nothing-due : DueToAll (st .stage) (ended (lineOf st) (take i chunk)) [] [] (st .stage)
+  nothing-due = rw (end .before) (refl, refl, refl)
 
-  -- the chunk does not end it
-  pub held-begun : i ≡ length chunk → FedAs st chunk out out (record { state = record { held = held; count = count; stage = st .stage }; used = i; wrote = 0; code = 0 })
-  held-begun e = record {
-    within = omega arith;
+  -- what feeding has done where it is not answered
+  abbrev still : ℕ → Fed
+  still code = record { state = record { held = held; count = count; stage = st .stage }; used = i; wrote = 0; tally = tallyOf []; code = code }
+
+  still-held : (code : ℕ) (out′ : List ℕ) → code ≡ codeOf i (length chunk) → out′ ≡ out → (i < length chunk → Full (still code .state) (getD chunk i 0) 0 (length out)) → FedAs st chunk out out′ (still code)
+  still-held code out′ is o full = record {
+    within = end .within;
+    numbers = [];
     text = [];
     due = nothing-due;
     wrote = refl;
     fits = omega arith;
-    written = refl;
+    written = o;
+    tally = refl;
     held = capped-is;
-    full = λ k. absurd (omega arith);
-    code = sym (code-none i (length chunk) (omega arith));
+    full = full;
+    code = is;
   }
+
+  -- the chunk does not end it
+  pub held-begun : i ≡ length chunk → FedAs st chunk out out (still 0)
+  held-begun e = still-held 0 out (sym (code-none i (length chunk) (omega arith))) refl (λ k. absurd (omega arith))
 
   module _ (more : i < length chunk) where
     ends-line : endsLine (take count held) (getD chunk i 0) ≡ true
@@ -276,69 +324,28 @@ module _ (st : State) (chunk out : List ℕ) (i : ℕ) (held : List ℕ) (count 
     some-held = ends-some (take count held) (getD chunk i 0) ends-line
 
     -- the buffer has no room for its answer
-    pub held-full : (out′ : List ℕ) (x : Reply) → Short (st .stage) (allButLast (take count held)) out out′ x
-        → FedAs st chunk out out′ (record { state = record { held = held; count = count; stage = st .stage }; used = i; wrote = 0; code = x .placing .answer .code })
-    held-full out′ x short = record {
-      within = omega arith;
-      text = [];
-      due = nothing-due;
-      wrote = refl;
-      fits = omega arith;
-      written = short .bytes;
-      held = capped-is;
-      full = λ k. record { ends = ends-line; number = short .number; text = short .text; due = short .due; no-room = omega (arith, short .no-room) };
-      code = short .code ∙ sym (code-some i (length chunk) more);
-    }
+    pub held-full : (out′ : List ℕ) (r : Reply) → Short (st .stage) (allButLast (take count held)) out out′ r → FedAs st chunk out out′ (still (r .placing .answer .code))
+    held-full out′ r short =
+        still-held (r .placing .answer .code) out′ (short .code ∙ sym (code-some i (length chunk) more)) (short .bytes)
+        (λ k. record { ends = ends-line; number = short .number; text = short .text; due = short .due; no-room = omega (arith, short .no-room) })
 
-    -- it is answered, and the rest of the chunk is fed into the rest of the buffer
-    pub held-rest : (out₁ out′ part held′ : List ℕ) (r : Reply) (y : Fed) → Written (st .stage) (allButLast (take count held)) out out₁ r
-        → FedAs (record { held = held′; count = 0; stage = r .stage }) (drop (i + 1) chunk) (drop (r .placing .answer .wrote) out₁) part y → out′ ≡ take (r .placing .answer .wrote) out₁ ++ part
-        → FedAs st chunk out out′ (record { state = y .state; used = i + 1 + y .used; wrote = r .placing .answer .wrote + y .wrote; code = y .code })
-    held-rest out₁ out′ part held′ r y w f o =
+    -- it is answered, and feeding goes on after it
+    pub held-at : (out′ : List ℕ) (r : Reply) → Written (st .stage) (allButLast (take count held)) out out′ r → At st chunk out out′ (afterHeld (i + 1) r)
+    held-at out′ r w =
         let line = lineOf st ++ take i chunk in
-        let n = r .placing .answer .wrote in
-        let first-due : Due (st .stage) (allButLast line) (w .number) (w .text) =
+        let due : Due (st .stage) (allButLast line) (w .number) (w .text) =
         capped-front line (st .stage) (w .number) (w .text) (subst (λ (l : List ℕ). Due (st .stage) (allButLast l) (w .number) (w .text)) line-is (w .due)) in
         let later : r .stage ≡ next (st .stage) (allButLast line) = w .later ∙ ap (λ (l : List ℕ). next (st .stage) (allButLast l)) line-is ∙ capped-next line (st .stage) in
-        let ended-is : ended (lineOf st) (take (i + 1 + y .used) chunk) ≡ allButLast line ∷ ended [] (take (y .used) (drop (i + 1) chunk)) =
-        ap (ended (lineOf st)) (take-add (i + 1) (y .used) chunk) ∙ ended-append (lineOf st) (take (i + 1) chunk) (take (y .used) (drop (i + 1) chunk))
-        ∙ rw (ended-one (lineOf st) chunk i end more, begun-none (lineOf st) chunk i end more) in
-        let begun-is : begun (lineOf st) (take (i + 1 + y .used) chunk) ≡ begun [] (take (y .used) (drop (i + 1) chunk)) =
-        ap (begun (lineOf st)) (take-add (i + 1) (y .used) chunk) ∙ begun-append (lineOf st) (take (i + 1) chunk) (take (y .used) (drop (i + 1) chunk))
-        ∙ rw (begun-none (lineOf st) chunk i end more) in
-        let long : length (w .text ++ f .text) ≡ length (w .text) + length (f .text) = length-append (w .text) (f .text) in
-        let out-long : length out₁ ≡ length out =
-        ap length (w .bytes) ∙ length-append (w .text) (drop (length (w .text)) out) ∙ omega (arith, length-drop (length (w .text)) out, w .fits) in
-        let first : take n out₁ ≡ w .text = ap (take n) (w .bytes) ∙ ap (λ (k : ℕ). take k (w .text ++ drop (length (w .text)) out)) (w .wrote) ∙ take-append-seam (w .text) (drop (length (w .text)) out) in
-        let rest : drop n out₁ ≡ drop (length (w .text)) out = ap (drop n) (w .bytes) ∙ ap (λ (k : ℕ). drop k (w .text ++ drop (length (w .text)) out)) (w .wrote) ∙ drop-append-seam (w .text) (drop (length (w .text)) out) in
         record {
-          within = omega (arith, f .within, length-drop (i + 1) chunk);
-          text = w .text ++ f .text;
-          due =
-              subst (λ (ls : List (List ℕ)). DueToAll (st .stage) ls (w .text ++ f .text) (y .state .stage)) (sym ended-is) (
-                w .number,
-                w .text,
-                f .text,
-                first-due,
-                subst (λ (g : Stage). DueToAll g (ended [] (take (y .used) (drop (i + 1) chunk))) (f .text) (y .state .stage)) later (f .due),
-                refl,
-              );
-          wrote = omega (arith, w .wrote, f .wrote, long);
-          fits = omega (arith, long, f .fits, length-drop n out₁, out-long, w .wrote, w .fits);
-          written =
-              o ∙ ap (λ (l : List ℕ). take n out₁ ++ l) (f .written) ∙ rw (first, rest, drop-drop (length (f .text)) (length (w .text)) out, long)
-              (sym (append-assoc (w .text) (f .text) (drop (length (w .text) + length (f .text)) out)));
-          held = f .held ∙ ap capped (sym begun-is);
-          full = λ k.
-              let g = f .full (rw (length-drop (i + 1) chunk) (omega (arith, k))) in
-              record {
-                ends = ap (endsLine (lineOf (y .state))) (sym (getD-drop (i + 1) chunk (y .used) 0)) ∙ g .ends;
-                number = g .number;
-                text = g .text;
-                due = g .due;
-                no-room = omega (arith, g .no-room, length-drop n out₁, out-long, w .wrote, w .fits);
-              };
-          code = f .code ∙ code-on (y .used) (length (drop (i + 1) chunk)) (i + 1) (length chunk) (omega (arith, length-drop (i + 1) chunk, more));
+          within = omega arith;
+          numbers = w .number ∷ [];
+          text = w .text;
+          due = rw (later, ended-one (lineOf st) chunk i end more) (w .number, w .text, [], [], due, (refl, refl, refl), refl, sym (append-nil (w .text)));
+          nothing = begun-none (lineOf st) chunk i end more;
+          wrote = omega (arith, w .wrote);
+          fits = w .fits;
+          bytes = w .bytes;
+          tally = ap (withLine (tallyOf [])) (w .code) ∙ tally-more [] (w .number);
         }
 
 pub last-held : (held : List ℕ) (n : ℕ) → 1 ≤ n → n ≤ length held → lastByte (take n held) ≡ getD held (n - 1) 0

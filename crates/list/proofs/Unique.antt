@@ -21,6 +21,7 @@ use Rattle.lines.specs.Lines.{allButLast, endsLine, ended, begun, lines}
 use Rattle.list.specs.Kinds.{kindOf, headed}
 use Rattle.list.specs.Lists.{RowsAnswered, HeaderAnswered, LinesAnswered}
 use Rattle.lines.specs.Held.{capped}
+use Rattle.list.specs.Tallies.{tallyOf}
 use Rattle.list.specs.Feeding.{Due, DueToAll, lineOf, codeOf, FedAs}
 use Rattle.list.specs.Promised.{OneList, OneFeeding, OneEnding}
 use Rattle.lines.proofs.Lines.{ended-append}
@@ -76,8 +77,8 @@ no-less st chunk out out′ out″ x y f g h =
     let due : Due (x .state .stage) (allButLast line) (full .number) (full .text) =
     capped-front line (x .state .stage) (full .number) (full .text) (subst (λ (l : List ℕ). Due (x .state .stage) (allButLast l) (full .number) (full .text)) (f .held) (full .due)) in
     let most : length (f .text) + length (full .text) ≤ length (g .text) =
-    due-within (st .stage) (x .state .stage) (y .state .stage) (ended (lineOf st) fed) (ended [] rest) (allButLast line) (f .text) (full .text) (g .text) (full .number) (f .due) due
-    (subst (λ (ls : List (List ℕ)). DueToAll (st .stage) ls (g .text) (y .state .stage)) all (g .due)) in
+    due-within (st .stage) (x .state .stage) (y .state .stage) (ended (lineOf st) fed) (ended [] rest) (allButLast line) (f .numbers) (g .numbers) (f .text) (full .text) (g .text) (full .number) (f .due) due
+    (subst (λ (ls : List (List ℕ)). DueToAll (st .stage) ls (g .numbers) (g .text) (y .state .stage)) all (g .due)) in
     omega (arith, most, f .wrote, g .fits, full .no-room)
 
 pub one-feeding : OneFeeding
@@ -87,13 +88,14 @@ one-feeding st chunk out out′ out″ x y f g =
       | yes h ↦ absurd (no-less st chunk out out′ out″ x y f g h)
       | no h ↦ elim (decLt (y .used) (x .used)) [ yes k ↦ absurd (no-less st chunk out out″ out′ y x g f k) | no k ↦ omega (arith, h, k) ]
     ] in
-    let one = all-unique (st .stage) (ended (lineOf st) (take (x .used) chunk)) (f .text) (g .text) (x .state .stage) (y .state .stage) (f .due)
-    (subst (λ (n : ℕ). DueToAll (st .stage) (ended (lineOf st) (take n chunk)) (g .text) (y .state .stage)) (sym used) (g .due)) in
+    let one = all-unique (st .stage) (ended (lineOf st) (take (x .used) chunk)) (f .numbers) (g .numbers) (f .text) (g .text) (x .state .stage) (y .state .stage) (f .due)
+    (subst (λ (n : ℕ). DueToAll (st .stage) (ended (lineOf st) (take n chunk)) (g .numbers) (g .text) (y .state .stage)) (sym used) (g .due)) in
     record {
-      bytes = f .written ∙ ap (λ (t : List ℕ). t ++ drop (length t) out) (one .0) ∙ sym (g .written);
+      bytes = f .written ∙ ap (λ (t : List ℕ). t ++ drop (length t) out) (one .text) ∙ sym (g .written);
       used = used;
-      wrote = f .wrote ∙ ap length (one .0) ∙ sym (g .wrote);
+      wrote = f .wrote ∙ ap length (one .text) ∙ sym (g .wrote);
       code = f .code ∙ ap (λ (n : ℕ). codeOf n (length chunk)) used ∙ sym (g .code);
-      stage = one .1;
+      tally = f .tally ∙ ap tallyOf (one .numbers) ∙ sym (g .tally);
+      stage = one .stage;
       held = f .held ∙ ap (λ (n : ℕ). capped (begun (lineOf st) (take n chunk))) used ∙ sym (g .held);
     }

@@ -36,21 +36,23 @@ use Rattle.list.proofs.Dues.{due-append, due-small, at-end-small}
 -- What is due to all lines of an input, from a stage and a partial line on.
 pub record Said (g : Stage) (line input output : List ℕ) : Type 0 where
   pub later : Stage
+  pub numbers : List ℕ
   pub text : List ℕ
   pub number : ℕ
   pub last : List ℕ
-  pub due : DueToAll g (ended line input) text later
+  pub due : DueToAll g (ended line input) numbers text later
   pub at-end : DueAtEnd later (begun line input) number last
   pub both : output ≡ text ++ last
 
 -- after the first part of the input, of whose last line no more is held than it takes
-said-after : (g between : Stage) (line part rest text output : List ℕ) → DueToAll g (ended line part) text between → Said between (capped (begun line part)) rest output → Said g line (part ++ rest) (text ++ output)
-said-after g between line part rest text output d s = record {
+said-after : (g between : Stage) (line part rest numbers text output : List ℕ) → DueToAll g (ended line part) numbers text between → Said between (capped (begun line part)) rest output → Said g line (part ++ rest) (text ++ output)
+said-after g between line part rest numbers text output d s = record {
   later = s .later;
+  numbers = numbers ++ s .numbers;
   text = text ++ s .text;
   number = s .number;
   last = s .last;
-  due = rw (ended-append line part rest) (due-append g between (s .later) (ended line part) (ended (begun line part) rest) text (s .text) d (capped-all (begun line part) rest between (s .later) (s .text) (s .due)));
+  due = rw (ended-append line part rest) (due-append g between (s .later) (ended line part) (ended (begun line part) rest) numbers (s .numbers) text (s .text) d (capped-all (begun line part) rest between (s .later) (s .numbers) (s .text) (s .due)));
   at-end = rw (begun-append line part rest) (alike-at-end (alike-begun (capped-alike (begun line part)) rest) (s .later) (s .number) (s .last) (s .at-end));
   both = ap (λ (x : List ℕ). text ++ x) (s .both) ∙ sym (append-assoc text (s .text) (s .last));
 }
@@ -62,9 +64,13 @@ placed-text n t out out′ x not-short h =
     (λ p. absurd (not-short (ap (λ (x : LineAnswer). x .code) (p .0))))
 
 -- nothing is due after a wrong header
-stopped-due : (ls : List (List ℕ)) → DueToAll Stopped ls [] Stopped
-stopped-due [] = (refl, refl)
-stopped-due (row ∷ ls) = (0, [], [], (refl, refl), stopped-due ls, refl)
+abbrev zeros : List (List ℕ) → List ℕ
+zeros [] = []
+zeros (line ∷ ls) = 0 ∷ zeros ls
+
+stopped-due : (ls : List (List ℕ)) → DueToAll Stopped ls (zeros ls) [] Stopped
+stopped-due [] = (refl, refl, refl)
+stopped-due (line ∷ ls) = (0, [], zeros ls, [], (refl, refl), stopped-due ls, refl, refl)
 
 stopped-at-end : (line : List ℕ) → DueAtEnd Stopped line 0 []
 stopped-at-end [] = (refl, refl)
@@ -73,10 +79,11 @@ stopped-at-end (b ∷ s) = (refl, refl)
 run-says : {st : State} {input output : List ℕ} → Run st input output → Said (st .stage) (lineOf st) input output
 run-says {st} (finish out out′ x (n, t, due, placed) not-short) = record {
   later = st .stage;
+  numbers = [];
   text = [];
   number = n;
   last = t;
-  due = (refl, refl);
+  due = (refl, refl, refl);
   at-end = due;
   both = placed-text n t out out′ x not-short placed;
 }
@@ -85,12 +92,13 @@ run-says {st} (feed {output = output} chunk more out out′ x f run) =
     let wrote : take (x .wrote) out′ ≡ f .text = ap₂ take (f .wrote) (f .written) ∙ take-append-seam (f .text) (drop (length (f .text)) out) in
     let whole : take (x .used) chunk ++ rest ≡ chunk ++ more = sym (append-assoc (take (x .used) chunk) (drop (x .used) chunk) more) ∙ ap (λ (s : List ℕ). s ++ more) (take-append-drop (x .used) chunk) in
     let later = subst (λ (l : List ℕ). Said (x .state .stage) l rest output) (f .held) (run-says run) in
-    let said = said-after (st .stage) (x .state .stage) (lineOf st) (take (x .used) chunk) rest (f .text) output (f .due) later in
+    let said = said-after (st .stage) (x .state .stage) (lineOf st) (take (x .used) chunk) rest (f .numbers) (f .text) output (f .due) later in
     subst (λ (s : List ℕ). Said (st .stage) (lineOf st) s (take (x .wrote) out′ ++ output)) whole (subst (λ (t : List ℕ). Said (st .stage) (lineOf st) (take (x .used) chunk ++ rest) (t ++ output)) (sym wrote) said)
 run-says {st} (stop unread is) =
     subst (λ (g : Stage). Said g (lineOf st) unread []) (sym is)
     (record {
       later = Stopped;
+      numbers = zeros (ended (lineOf st) unread);
       text = [];
       number = 0;
       last = [];
@@ -101,55 +109,55 @@ run-says {st} (stop unread is) =
 
 -- ---- what was due is the answer to the list
 -- to rows, the last of which may be cut short
-rows-said : (kind : Kind) (ls : List (List ℕ)) (line text last : List ℕ) (n : ℕ) (later : Stage) → DueToAll (Rows kind) ls text later → DueAtEnd later line n last → RowsAnswered kind (ls ++ lastLine line) (text ++ last)
-rows-said kind [] line text last n later (e, f) k =
+rows-said : (kind : Kind) (ls : List (List ℕ)) (line ns text last : List ℕ) (n : ℕ) (later : Stage) → DueToAll (Rows kind) ls ns text later → DueAtEnd later line n last → RowsAnswered kind (ls ++ lastLine line) (text ++ last)
+rows-said kind [] line ns text last n later (i, e, f) k =
     rw e (ending line (subst (λ (g : Stage). DueAtEnd g line n last) f k))
   where
     ending : (line : List ℕ) → DueAtEnd (Rows kind) line n last → RowsAnswered kind (lastLine line) last
     ending [] (e, f) = f
     ending (b ∷ s) h = (n, last, [], h, refl, sym (append-nil last))
-rows-said kind (row ∷ ls) line text last n later (m, first, rest, due, more, e) k =
-    (m, first, rest ++ last, due, rows-said kind ls line rest last n later more k, ap (λ (x : List ℕ). x ++ last) e ∙ append-assoc first rest last)
+rows-said kind (row ∷ ls) line ns text last n later (m, first, more, rest, due, all, i, e) k =
+    (m, first, rest ++ last, due, rows-said kind ls line more rest last n later all k, ap (λ (x : List ℕ). x ++ last) e ∙ append-assoc first rest last)
 
 -- nothing after a wrong header
-nothing-said : (ls : List (List ℕ)) (line text last : List ℕ) (n : ℕ) (later : Stage) → DueToAll Stopped ls text later → DueAtEnd later line n last → text ++ last ≡ []
-nothing-said [] line text last n later (e, f) k =
+nothing-said : (ls : List (List ℕ)) (line ns text last : List ℕ) (n : ℕ) (later : Stage) → DueToAll Stopped ls ns text later → DueAtEnd later line n last → text ++ last ≡ []
+nothing-said [] line ns text last n later (i, e, f) k =
     rw e (ending line (subst (λ (g : Stage). DueAtEnd g line n last) f k))
   where
     ending : (line : List ℕ) → DueAtEnd Stopped line n last → last ≡ []
     ending [] (e, f) = f
     ending (b ∷ s) (e, f) = f
-nothing-said (row ∷ ls) line text last n later (m, first, rest, due, more, e) k =
-    ap (λ (x : List ℕ). x ++ last) (e ∙ ap (λ (x : List ℕ). x ++ rest) (due .1)) ∙ nothing-said ls line rest last n later more k
+nothing-said (row ∷ ls) line ns text last n later (m, first, more, rest, due, all, i, e) k =
+    ap (λ (x : List ℕ). x ++ last) (e ∙ ap (λ (x : List ℕ). x ++ rest) (due .1)) ∙ nothing-said ls line more rest last n later all k
 
-header-said : (desk : Desk) (k : Option Kind) (text last : List ℕ) (ls : List (List ℕ)) (line first rest : List ℕ) (m n : ℕ) (later : Stage) → HeaderDue desk k m first
-    → DueToAll (afterHeader k) ls rest later → DueAtEnd later line n last → text ≡ first ++ rest → HeaderAnswered desk k (ls ++ lastLine line) (text ++ last)
-header-said desk none text last ls line first rest m n later due more k e =
+header-said : (desk : Desk) (k : Option Kind) (text last : List ℕ) (ls : List (List ℕ)) (line first ns rest : List ℕ) (m n : ℕ) (later : Stage) → HeaderDue desk k m first
+    → DueToAll (afterHeader k) ls ns rest later → DueAtEnd later line n last → text ≡ first ++ rest → HeaderAnswered desk k (ls ++ lastLine line) (text ++ last)
+header-said desk none text last ls line first ns rest m n later due more k e =
     ap (λ (x : List ℕ). x ++ last) (e ∙ ap (λ (x : List ℕ). x ++ rest) (due .1)) ∙ append-assoc (wrongHeader desk) rest last
-    ∙ ap (λ (x : List ℕ). wrongHeader desk ++ x) (nothing-said ls line rest last n later more k) ∙ append-nil (wrongHeader desk)
-header-said desk (some kind) text last ls line first rest m n later due more k e =
+    ∙ ap (λ (x : List ℕ). wrongHeader desk ++ x) (nothing-said ls line ns rest last n later more k) ∙ append-nil (wrongHeader desk)
+header-said desk (some kind) text last ls line first ns rest m n later due more k e =
     let start = outputHeader (kindOf kind) in
-    (rest ++ last, rows-said kind ls line rest last n later more k, ap (λ (x : List ℕ). x ++ last) (e ∙ ap (λ (x : List ℕ). x ++ rest) (due .1)) ∙ append-assoc start rest last)
+    (rest ++ last, rows-said kind ls line ns rest last n later more k, ap (λ (x : List ℕ). x ++ last) (e ∙ ap (λ (x : List ℕ). x ++ rest) (due .1)) ∙ append-assoc start rest last)
 
 -- a header that is the last line
 header-last : (desk : Desk) (k : Option Kind) (n : ℕ) (last : List ℕ) → HeaderDue desk k n last → HeaderAnswered desk k [] last
 header-last desk none n last (e, f) = f
 header-last desk (some kind) n last (e, f) = ([], refl, f ∙ sym (append-nil (outputHeader (kindOf kind))))
 
-lines-said : (desk : Desk) (ls : List (List ℕ)) (line text last : List ℕ) (n : ℕ) (later : Stage) → DueToAll (Header desk) ls text later → DueAtEnd later line n last
+lines-said : (desk : Desk) (ls : List (List ℕ)) (line ns text last : List ℕ) (n : ℕ) (later : Stage) → DueToAll (Header desk) ls ns text later → DueAtEnd later line n last
     → LinesAnswered desk (ls ++ lastLine line) (text ++ last)
-lines-said desk [] line text last n later (e, f) k = rw e (ending line (subst (λ (g : Stage). DueAtEnd g line n last) f k))
+lines-said desk [] line ns text last n later (i, e, f) k = rw e (ending line (subst (λ (g : Stage). DueAtEnd g line n last) f k))
   where
     ending : (line : List ℕ) → DueAtEnd (Header desk) line n last → LinesAnswered desk (lastLine line) last
     ending [] (e, f) = f
     ending (b ∷ s) h = header-last desk (headed desk (b ∷ s)) n last h
-lines-said desk (header ∷ ls) line text last n later (m, first, rest, due, more, e) k = header-said desk (headed desk header) text last ls line first rest m n later due more k e
+lines-said desk (header ∷ ls) line ns text last n later (m, first, more, rest, due, all, i, e) k = header-said desk (headed desk header) text last ls line first more rest m n later due all k e
 
 pub every-cutting : EveryCutting
 every-cutting desk st input output (count, stage) run =
     let said = subst (λ (l : List ℕ). Said (st .stage) l input output) (ap (λ (n : ℕ). take n (st .held)) count) (run-says run) in
     let s = subst (λ (g : Stage). Said g [] input output) stage said in
-    subst (ListAnswered desk input) (sym (s .both)) (lines-said desk (ended [] input) (begun [] input) (s .text) (s .last) (s .number) (s .later) (s .due) (s .at-end))
+    subst (ListAnswered desk input) (sym (s .both)) (lines-said desk (ended [] input) (begun [] input) (s .numbers) (s .text) (s .last) (s .number) (s .later) (s .due) (s .at-end))
 
 -- ---- buffers
 pub goes-on : GoesOn
@@ -159,9 +167,9 @@ goes-on st chunk out out′ x f enough more =
       | no h ↦
           let none : x .used ≡ 0 = omega (arith, h) in
           let full = f .full (omega arith) in
-          let nothing : DueToAll (st .stage) [] (f .text) (x .state .stage) = subst (λ (n : ℕ). DueToAll (st .stage) (ended (lineOf st) (take n chunk)) (f .text) (x .state .stage)) none (f .due) in
-          let wrote : x .wrote ≡ 0 = f .wrote ∙ ap length (nothing .0) in
-          let due = subst (λ (g : Stage). Due g (allButLast (lineOf (x .state))) (full .number) (full .text)) (nothing .1) (full .due) in
+          let nothing : DueToAll (st .stage) [] (f .numbers) (f .text) (x .state .stage) = subst (λ (n : ℕ). DueToAll (st .stage) (ended (lineOf st) (take n chunk)) (f .numbers) (f .text) (x .state .stage)) none (f .due) in
+          let wrote : x .wrote ≡ 0 = f .wrote ∙ ap length (nothing .1) in
+          let due = subst (λ (g : Stage). Due g (allButLast (lineOf (x .state))) (full .number) (full .text)) (nothing .2) (full .due) in
           absurd (omega (arith, wrote, full .no-room, due-small (st .stage) (allButLast (lineOf (x .state))) (full .number) (full .text) due .text))
     ]
 

@@ -21,6 +21,7 @@ use Rattle.list.specs.declared.feeding.Fed.{Fed}
 use Rattle.lines.specs.Lines.{allButLast, endsLine, ended, begun}
 use Rattle.lines.specs.Held.{capped}
 use Rattle.list.specs.Kinds.{kindOf, headed, wrongHeader}
+use Rattle.list.specs.Tallies.{tallyOf}
 
 -- The number and the text that are due to a header: by the kind of list that it names.
 abbrev pub HeaderDue : Desk → Option Kind → ℕ → List ℕ → Type 0
@@ -43,11 +44,12 @@ next (Header desk) line = afterHeader (headed desk line)
 next (Rows k) line = Rows k
 next Stopped line = Stopped
 
--- The text that is due to lines one after the other, and the stage after them.
-abbrev pub DueToAll : Stage → List (List ℕ) → List ℕ → Stage → Type 0
-DueToAll stage [] text later = (text ≡ []) × (later ≡ stage)
-DueToAll stage (line ∷ others) text later =
-    (number : ℕ) × (first : List ℕ) × (rest : List ℕ) × Due stage line number first × DueToAll (next stage line) others rest later × (text ≡ first ++ rest)
+-- The numbers and the text that are due to lines one after the other, and the stage after them.
+abbrev pub DueToAll : Stage → List (List ℕ) → List ℕ → List ℕ → Stage → Type 0
+DueToAll stage [] numbers text later = (numbers ≡ []) × (text ≡ []) × (later ≡ stage)
+DueToAll stage (line ∷ others) numbers text later =
+    (number : ℕ) × (first : List ℕ) × (more : List ℕ) × (rest : List ℕ) × Due stage line number first × DueToAll (next stage line) others more rest later
+    × (numbers ≡ number ∷ more) × (text ≡ first ++ rest)
 
 -- What is due to no line: before the header that is a wrong header.
 abbrev pub DueToNone : Stage → ℕ → List ℕ → Type 0
@@ -77,16 +79,18 @@ abbrev pub codeOf : ℕ → ℕ → ℕ
 codeOf used bytes = if ltb used bytes then numberOf BufferShort else 0
 
 -- What feeding a chunk promises, `out` being the lent buffer before and `out′` after. So many bytes of the chunk are used. What is due to the lines that end
--- within them is written at the start of the buffer, and its other bytes stay. The new state has the stage after those lines and holds, as far as it is
--- held, the partial line after them. All bytes are used and the code is 0, unless the next byte ends a line whose answer the buffer has no room for: then the
--- code is 11.
+-- within them is written at the start of the buffer, and its other bytes stay; the tally is that of those lines. The new state has the stage after them and
+-- holds, as far as it is held, the partial line after them. All bytes are used and the code is 0, unless the next byte ends a line whose answer the buffer has no
+-- room for: then the code is 11.
 pub record FedAs (st : State) (chunk out out′ : List ℕ) (x : Fed) : Type 0 where
   pub within : x .used ≤ length chunk
+  pub numbers : List ℕ
   pub text : List ℕ
-  pub due : DueToAll (st .stage) (ended (lineOf st) (take (x .used) chunk)) text (x .state .stage)
+  pub due : DueToAll (st .stage) (ended (lineOf st) (take (x .used) chunk)) numbers text (x .state .stage)
   pub wrote : x .wrote ≡ length text
   pub fits : length text ≤ length out
   pub written : out′ ≡ text ++ drop (length text) out
+  pub tally : x .tally ≡ tallyOf numbers
   pub held : lineOf (x .state) ≡ capped (begun (lineOf st) (take (x .used) chunk))
   pub full : x .used < length chunk → Full (x .state) (getD chunk (x .used) 0) (x .wrote) (length out)
   pub code : x .code ≡ codeOf (x .used) (length chunk)

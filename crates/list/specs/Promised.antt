@@ -28,12 +28,13 @@ EveryCutting = (desk : Desk) (st : State) (input output : List ℕ) → Start de
 abbrev pub OneList : Type 0
 OneList = (desk : Desk) (input output output′ : List ℕ) → ListAnswered desk input output → ListAnswered desk input output′ → output ≡ output′
 
--- Two outcomes that feeding allows are one: bytes, counts, code, stage, and what is held of the partial line.
+-- Two outcomes that feeding allows are one: bytes, counts, code, tally, stage, and what is held of the partial line.
 pub record SameFed (out′ out″ : List ℕ) (x y : Fed) : Type 0 where
   pub bytes : out′ ≡ out″
   pub used : x .used ≡ y .used
   pub wrote : x .wrote ≡ y .wrote
   pub code : x .code ≡ y .code
+  pub tally : x .tally ≡ y .tally
   pub stage : x .state .stage ≡ y .state .stage
   pub held : lineOf (x .state) ≡ lineOf (y .state)
 

@@ -2,7 +2,9 @@
 mod feeding;
 mod header;
 mod kinds;
+mod replies;
 mod state;
+mod tally;
 
 pub use feeding::Fed;
 pub use feeding::feed;
@@ -12,3 +14,4 @@ pub use kinds::Kind;
 pub use state::Stage;
 pub use state::State;
 pub use state::start;
+pub use tally::Tally;

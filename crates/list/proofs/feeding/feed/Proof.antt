@@ -1,30 +1,44 @@
 -- `list::feeding::feed` meets its contract, with a partial line held and with none.
-use Rattle.list.proofs.Feeds.{held-is, none-held}
-use Rattle.lines.specs.Held.{mostHeld}
-use lib.ListN.{length}
-use native.Mathlib.Omega.{arith}
-use mathlib.Core.Path.{_≡_}
 use borrow.Author.Needs.{needs}
+use mathlib.Core.Path.{_≡_}
+use native.Mathlib.Omega.{arith}
+use lib.ListN.{length}
+use Rattle.lines.specs.Held.{mostHeld}
+use Rattle.list.proofs.Feeds.{held-is, none-held, at-start, standing-start}
 use Rattle.list.proofs.feeding.feed.Statement.{statement}
 use Rattle.list.proofs.feeding.feed.Tie as tie
 
 held-count-requires : tie.Need-held-count-requires
 held-count-requires c κs = search needs
 
-feed-lines-requires : tie.Need-feed-lines-requires
-feed-lines-requires c κs = none-held (c .before .before .before .before .before .args .state .count) (c .before .before .held-count .result) (c .before .before .held-count .ensures) (c .before .if1 .taken)
+no-lines-requires : tie.Need-no-lines-requires
+no-lines-requires c κs = search needs
+
+feed-on-requires : tie.Need-feed-on-requires
+feed-on-requires c κs =
+    let at-no-lines = c .before in
+    let at-start = at-no-lines .before .before .before .before .before .before in
+    rw (at-no-lines .no-lines .ensures) (standing-start (at-start .args .state .stage) (at-start .args .chunk .now) (at-start .args .out .now))
 
 same-length : tie.Need-same-length
 same-length c = search needs
 
 returns : tie.Need-returns
-returns c = search needs
+returns c =
+    let at-feed-on = c .before .before in
+    let at-no-lines = at-feed-on .before .before in
+    let at-count = at-no-lines .before .before .before in
+    let start = at-count .before .before .before in
+    let st = start .args .state in
+    let none = none-held (st .count) (at-count .held-count .result) (at-count .held-count .ensures) (at-no-lines .before .before .if1 .taken) in
+    at-feed-on .feed-on .ensures st (start .args .out .now) (rw (at-no-lines .no-lines .ensures) (at-start st (start .args .chunk .now) (start .args .out .now) none))
 
 feed-held-requires : tie.Need-feed-held-requires
 feed-held-requires c κs =
-    let st = c .before .before .before .before .before .args .state in
+    let at-count = c .before .before in
+    let st = at-count .before .before .before .args .state in
     let long : length (st .held) ≡ mostHeld = search needs in
-    let known = held-is (st .held) (st .count) (c .before .before .held-count .result) long (c .before .before .held-count .ensures) in
+    let known = held-is (st .held) (st .count) (at-count .held-count .result) long (at-count .held-count .ensures) in
     (omega (arith, c .before .if1 .left), known .0, known .1)
 
 same-length-2 : tie.Need-same-length-2
@@ -38,7 +52,8 @@ feed-spec =
     tie.close
     (tie.spec
     held-count-requires
-    feed-lines-requires
+    no-lines-requires
+    feed-on-requires
     same-length
     returns
     feed-held-requires

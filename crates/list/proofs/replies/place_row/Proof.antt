@@ -1,11 +1,11 @@
--- `list::feeding::place_row` meets its contract: each kind by its own call.
+-- `list::replies::place_row` meets its contract: each kind by its own call.
 use mathlib.Core.Path.{sym, subst}
 use Rattle.line.specs.Lent.{AnsweredAs}
 use Rattle.list.specs.declared.kinds.Kind.{Kind}
 use Rattle.list.specs.Kinds.{kindOf}
 use borrow.Author.Needs.{needs}
-use Rattle.list.proofs.feeding.place_row.Statement.{statement}
-use Rattle.list.proofs.feeding.place_row.Tie as tie
+use Rattle.list.proofs.replies.place_row.Statement.{statement}
+use Rattle.list.proofs.replies.place_row.Tie as tie
 
 enum-told : tie.Need-enum-told
 enum-told c = search needs

@@ -1,4 +1,4 @@
--- `list::feeding::reply_to` meets its contract: by the stage.
+-- `list::replies::reply_to` meets its contract: by the stage.
 use mathlib.Core.Path.{refl, sym, subst}
 use mathlib.Core.Bool.{true}
 use mathlib.Core.List.{[]}
@@ -7,8 +7,8 @@ use Rattle.list.specs.declared.state.Stage.the-variants.{Rows, Stopped}
 use Rattle.list.specs.Replies.{RepliedAs}
 use Rattle.list.proofs.Nothing.{nothing-fits}
 use borrow.Author.Needs.{needs}
-use Rattle.list.proofs.feeding.reply_to.Statement.{statement}
-use Rattle.list.proofs.feeding.reply_to.Tie as tie
+use Rattle.list.proofs.replies.reply_to.Statement.{statement}
+use Rattle.list.proofs.replies.reply_to.Tie as tie
 
 enum-known-stage : tie.Need-enum-known-stage
 enum-known-stage c = search needs

@@ -1,4 +1,4 @@
--- `list::feeding::header_reply` meets its contract: a known header has its kind, any other is wrong.
+-- `list::replies::header_reply` meets its contract: a known header has its kind, any other is wrong.
 use mathlib.Core.Path.{refl, sym, ap, _∙_, subst}
 use mathlib.Core.Option.{Option}
 use Rattle.quantity.specs.Refusals.{numberOf}
@@ -8,8 +8,8 @@ use Rattle.list.specs.declared.kinds.Kind.{Kind}
 use Rattle.list.specs.Kinds.{kindOf, statedKind, wrongHeader}
 use Rattle.list.specs.Feeding.{HeaderDue, afterHeader}
 use borrow.Author.Needs.{needs}
-use Rattle.list.proofs.feeding.header_reply.Statement.{statement}
-use Rattle.list.proofs.feeding.header_reply.Tie as tie
+use Rattle.list.proofs.replies.header_reply.Statement.{statement}
+use Rattle.list.proofs.replies.header_reply.Tie as tie
 
 headed-by-requires : tie.Need-headed-by-requires
 headed-by-requires c κs = search needs

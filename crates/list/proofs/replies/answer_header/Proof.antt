@@ -1,12 +1,12 @@
--- `list::feeding::answer_header` meets its contract.
+-- `list::replies::answer_header` meets its contract.
 use mathlib.Core.Path.{sym, subst}
 use Rattle.line.specs.Kinds.{outputHeader}
 use Rattle.line.specs.Lent.{PlacedAs}
 use Rattle.list.specs.declared.kinds.Kind.{Kind}
 use Rattle.list.specs.Kinds.{kindOf}
 use borrow.Author.Needs.{needs}
-use Rattle.list.proofs.feeding.answer_header.Statement.{statement}
-use Rattle.list.proofs.feeding.answer_header.Tie as tie
+use Rattle.list.proofs.replies.answer_header.Statement.{statement}
+use Rattle.list.proofs.replies.answer_header.Tie as tie
 
 enum-told : tie.Need-enum-told
 enum-told c = search needs

@@ -1,4 +1,4 @@
--- `list::feeding::wrong_header` meets its contract: the first kind's header and ill-formed line.
+-- `list::replies::wrong_header` meets its contract: the first kind's header and ill-formed line.
 use mathlib.Core.Path.{sym, subst}
 use Prim.Native.Nat.{ℕ}
 use Rattle.quantity.specs.Refusals.{numberOf}
@@ -9,8 +9,8 @@ use Rattle.list.specs.declared.kinds.Desk.{Desk}
 use Rattle.list.specs.declared.kinds.Desk.the-variants.{Launch, Bench}
 use Rattle.list.specs.Kinds.{wrongHeader}
 use borrow.Author.Needs.{needs}
-use Rattle.list.proofs.feeding.wrong_header.Statement.{statement}
-use Rattle.list.proofs.feeding.wrong_header.Tie as tie
+use Rattle.list.proofs.replies.wrong_header.Statement.{statement}
+use Rattle.list.proofs.replies.wrong_header.Tie as tie
 
 number-requires : tie.Need-number-requires
 number-requires c κs = search needs

@@ -1,0 +1,40 @@
+-- How many lines were answered, and how.
+use mathlib.Core.Bool.{Bool, not}
+use mathlib.Core.List.{List, [], _∷_}
+use Prim.Native.Nat.{ℕ, _+_, _^_, _≤_, _<_}
+use lib.Dec.{eqb}
+use lib.ListN.{length}
+use Rattle.whole.specs.Choice.{if_then_else_}
+use Rattle.quantity.specs.Refusals.{numberOf}
+use Rattle.quantity.specs.declared.refusal.Refusal.the-variants.{IllFormed}
+use Rattle.list.specs.declared.tally.Tally.{Tally}
+
+-- A line is refused where the number given to it is not 0, and faulty where it is that of an ill-formed line.
+abbrev pub isRefused : ℕ → Bool
+isRefused number = not (eqb number 0)
+
+abbrev pub isFaulty : ℕ → Bool
+isFaulty number = eqb number (numberOf IllFormed)
+
+abbrev pub oneIf : Bool → ℕ
+oneIf such = if such then 1 else 0
+
+-- How many of these numbers are such.
+abbrev pub howMany : (ℕ → Bool) → List ℕ → ℕ
+howMany such [] = 0
+howMany such (number ∷ numbers) = oneIf (such number) + howMany such numbers
+
+-- The tally of lines to which these numbers were given.
+abbrev pub tallyOf : List ℕ → Tally
+tallyOf numbers = record { lines = length numbers; refused = howMany isRefused numbers; faulty = howMany isFaulty numbers }
+
+-- ---- what an inner function answers
+-- A tally with one line more.
+abbrev pub withLine : Tally → ℕ → Tally
+withLine t number = record { lines = t .lines + 1; refused = t .refused + oneIf (isRefused number); faulty = t .faulty + oneIf (isFaulty number) }
+
+-- One that can be counted on within 64 bits.
+pub record Countable (t : Tally) : Type 0 where
+  pub lines : t .lines < 2 ^ 63
+  pub refused : t .refused ≤ t .lines
+  pub faulty : t .faulty ≤ t .lines

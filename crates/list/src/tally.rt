@@ -1,0 +1,52 @@
+// How many lines of a list were answered, and how.
+ghost use mathlib.Core.Path.{_≡_};
+ghost use mathlib.Core.List.{[]};
+ghost use Rattle.list.specs.Tallies.{tallyOf, withLine, Countable};
+use quantity::Refusal;
+
+// All lines, those of them that were refused, and those of these that are faulty, which means ill-formed. A header is a line too.
+pub struct Tally {
+    pub lines: usize,
+    pub refused: usize,
+    pub faulty: usize,
+}
+
+pub fn no_lines() -> Tally
+    ensures { λ r. ⌜ r ≡ tallyOf [] ⌝ }
+{
+    Tally {
+        lines: 0,
+        refused: 0,
+        faulty: 0,
+    }
+}
+
+impl Tally {
+    // With one line more, to which this number was given.
+    pub fn and(self, number: u8) -> Tally
+        requires { ⌜ Countable self ⌝ }
+        ensures { λ r. ⌜ r ≡ withLine self number ⌝ }
+    {
+        let lines = self.lines + 1;
+        if number == 0 {
+            return Tally {
+                lines,
+                refused: self.refused,
+                faulty: self.faulty,
+            };
+        }
+        let refused = self.refused + 1;
+        if number == Refusal::IllFormed.number() {
+            return Tally {
+                lines,
+                refused,
+                faulty: self.faulty + 1,
+            };
+        }
+        Tally {
+            lines,
+            refused,
+            faulty: self.faulty,
+        }
+    }
+}
