@@ -15,7 +15,7 @@ use Rattle.certificate.specs.declared.resistances.Resistances.{Resistanc
 use Rattle.certificate.specs.declared.soundness.Certificate.{Certificate}
 use Rattle.certificate.specs.Certificate.{LawAndPlaces, noPlaces, held}
 use Rattle.certificate.specs.Record.{recordOf}
-use Rattle.certificate.specs.Resistances.{pair, isOutside, outside, ratiosOf, resistancesOf}
+use Rattle.certificate.specs.Resistances.{isOutside, cellOutside, outside, ratiosOf, resistancesOf}
 use Rattle.certificate.specs.Promised.{AsRatios, YieldedByRatios, ResistancesAccepted}
 use Rattle.certificate.proofs.Made.{record-accepted}
 
@@ -29,9 +29,9 @@ pub record Inside (resistances : Resistances) : Type 0 where
   pub aluminium : isOutside (resistances .aluminium) ≡ false
   pub silver : isOutside (resistances .silver) ≡ false
 
-cell-inside : (resistances : Resistances) → outside resistances ≡ false → (p : Cell) → isOutside (pair resistances p) ≡ false
+cell-inside : (resistances : Resistances) → outside resistances ≡ false → (p : Cell) → cellOutside resistances p ≡ false
 unfolding outside
-cell-inside resistances e p = no-cell (λ (p : Cell). isOutside (pair resistances p)) e p
+cell-inside resistances = no-cell (cellOutside resistances)
 
 pub inside : (resistances : Resistances) → outside resistances ≡ false → Inside resistances
 inside resistances e =

@@ -4,3 +4,5 @@ pub mod Sound
 pub mod Made
 pub mod Answers
 pub mod AsRatios
+pub mod Firsts
+pub mod AtFault

@@ -4,7 +4,7 @@ use mathlib.Core.Bool.{Bool, true, false, true≢false, _&&_, not}
 use mathlib.Core.List.{List, [], _∷_, map}
 use Prim.Native.Nat.{ℕ, _+_, _*_, _≤_}
 use borrow.Author.Tests.{ltb-false, leb-true, not-false, not-true, eqb-false}
-use lib.Dec.{leb, ltb, eqb}
+use lib.Dec.{leb, eqb}
 use lib.IntN.{ℤ, pos, _+ℤ_}
 use lib.Signed.{_≤ℤ_}
 use Rattle.whole.proofs.Any.{Member, here, there, of-none}
@@ -21,7 +21,7 @@ use Rattle.deviation.proofs.Limits.{x-parts, δ-parts, limit}
 use Rattle.fit.specs.Room.{Kept, Spread, leastGap, Roomy}
 use Rattle.fit.proofs.Sizes as sizes
 use Rattle.certificate.specs.declared.record.Record.{Record}
-use Rattle.certificate.specs.Record.{ratio, measured, ratioAbove, cellMissing, deviates, point}
+use Rattle.certificate.specs.Record.{ratio, measured, isAbove, ratioAbove, isMissing, cellMissing, cellDeviates, deviates, point}
 
 pub and-not : (a b : Bool) → a ≡ true → (a && not b) ≡ false → b ≡ true
 and-not true b p e = not-false b e
@@ -49,17 +49,17 @@ cells-apart s = every-subrange (λ (s : Subrange). apart (leastGap (cells s)) (c
 -- each cell of a list was measured
 pub all-measured : (ratios : Record) (ps : List Cell) → cellMissing ratios ps ≡ false → (p : Cell) → Member p ps → measured ratios p ≡ true
 unfolding cellMissing
-all-measured ratios ps e p m = not-false (measured ratios p) (of-none (λ (p : Cell). not (measured ratios p)) p ps m e)
+all-measured ratios ps e p m = not-false (measured ratios p) (of-none (isMissing ratios) p ps m e)
 
 module _ (ratios : Record) (above : ratioAbove ratios ≡ false) where
   pub not-above : (p : Cell) → ratio ratios p ≤ largestRatio
   unfolding ratioAbove
-  not-above p = ltb-false largestRatio (ratio ratios p) (no-cell (λ (p : Cell). ltb largestRatio (ratio ratios p)) above p)
+  not-above p = ltb-false largestRatio (ratio ratios p) (no-cell (isAbove ratios) above p)
 
   module _ (kept : deviates ratios ≡ false) where
     pub keeps-limit : (p : Cell) → measured ratios p ≡ true → within (Wr p) (ratio ratios p) ≡ true
     unfolding deviates
-    keeps-limit p m = and-not (measured ratios p) (within (Wr p) (ratio ratios p)) m (no-cell (λ (p : Cell). measured ratios p && not (within (Wr p) (ratio ratios p))) kept p)
+    keeps-limit p m = and-not (measured ratios p) (within (Wr p) (ratio ratios p)) m (no-cell (cellDeviates ratios) kept p)
 
     pub cell-kept : (p : Cell) → measured ratios p ≡ true → Kept (point ratios p)
     cell-kept p m =

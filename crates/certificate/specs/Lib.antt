@@ -2,4 +2,5 @@
 pub mod Certificate
 pub mod Record
 pub mod Resistances
+pub mod AtFault
 pub mod Promised

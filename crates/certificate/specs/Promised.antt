@@ -1,13 +1,20 @@
 -- What is promised of certificates besides their answers.
 use mathlib.Core.Path.{_≡_}
-use mathlib.Core.Bool.{true, false}
+use mathlib.Core.Bool.{Bool, true, false}
+use mathlib.Core.List.{List, [], _∷_}
+use mathlib.Core.Option.{none, some}
+use Prim.Native.Nat.{ℕ}
+use lib.Dec.{eqb}
+use Rattle.whole.specs.Any.{any}
 use Rattle.quantity.specs.Outcomes.{Outcome, answered, Follows}
+use Rattle.law.specs.declared.cell.Cell.{Cell}
 use Rattle.certificate.specs.declared.record.Record.{Record}
 use Rattle.certificate.specs.declared.resistances.Resistances.{Resistances}
 use Rattle.certificate.specs.declared.soundness.Certificate.{Certificate}
 use Rattle.certificate.specs.Certificate.{sound, givenOf, LawAndPlaces, held, givenRule}
 use Rattle.certificate.specs.Record.{recordRule}
 use Rattle.certificate.specs.Resistances.{outside, ratiosOf, resistancesRule}
+use Rattle.certificate.specs.AtFault.{cellAtFault, cellAtFaultBy}
 
 -- Every certificate that a record yields is sound.
 abbrev pub MadeSound : Type 0
@@ -36,3 +43,30 @@ abbrev pub ResistancesAccepted : Type 0
 ResistancesAccepted =
     (resistances : Resistances) (k : Certificate) → Follows (resistancesRule resistances) (answered (held k))
     → Follows (givenRule (givenOf k)) (answered (held k))
+
+-- ---- the cell at fault
+abbrev pub among : List ℕ → ℕ → Bool
+among numbers n = any (eqb n) numbers
+
+-- A record that is refused by 2, 4 or 6 has a cell at fault.
+abbrev pub FaultFound : Type 0
+FaultFound =
+    (ratios : Record) (o : Outcome LawAndPlaces) → Follows (recordRule ratios) o → among (2 ∷ 4 ∷ 6 ∷ []) (o .code) ≡ true
+    → (p : Cell) × (cellAtFault ratios ≡ some p)
+
+-- One that is accepted has none, nor has one that is refused by 3 or 5.
+abbrev pub NoneAtFault : Type 0
+NoneAtFault =
+    (ratios : Record) (o : Outcome LawAndPlaces) → Follows (recordRule ratios) o → among (0 ∷ 3 ∷ 5 ∷ []) (o .code) ≡ true
+    → cellAtFault ratios ≡ none
+
+-- The same of resistances, which have one where they are refused by 1 too.
+abbrev pub FaultFoundBy : Type 0
+FaultFoundBy =
+    (resistances : Resistances) (o : Outcome LawAndPlaces) → Follows (resistancesRule resistances) o → among (1 ∷ 2 ∷ 4 ∷ 6 ∷ []) (o .code) ≡ true
+    → (p : Cell) × (cellAtFaultBy resistances ≡ some p)
+
+abbrev pub NoneAtFaultBy : Type 0
+NoneAtFaultBy =
+    (resistances : Resistances) (o : Outcome LawAndPlaces) → Follows (resistancesRule resistances) o → among (0 ∷ 3 ∷ 5 ∷ []) (o .code) ≡ true
+    → cellAtFaultBy resistances ≡ none

@@ -36,13 +36,23 @@ ratio ratios cell.Ag = ratios .silver .0
 abbrev pub measured : Record → Cell → Bool
 measured ratios p = isMeasured (ratio ratios p)
 
+abbrev pub isMissing : Record → Cell → Bool
+isMissing ratios p = not (measured ratios p)
+
+abbrev pub isAbove : Record → Cell → Bool
+isAbove ratios p = ltb largestRatio (ratio ratios p)
+
+-- A cell given whose deviation is beyond its limit.
+abbrev pub cellDeviates : Record → Cell → Bool
+cellDeviates ratios p = measured ratios p && not (within (Wr p) (ratio ratios p))
+
 -- 2: a ratio above 4.4, of any cell.
 unfoldable pub ratioAbove : Record → Bool
-ratioAbove ratios = any (λ (p : Cell). ltb largestRatio (ratio ratios p)) allCells
+ratioAbove ratios = any (isAbove ratios) allCells
 
 -- 4: a cell of the subrange not measured.
 unfoldable pub cellMissing : Record → List Cell → Bool
-cellMissing ratios needed = any (λ (p : Cell). not (measured ratios p)) needed
+cellMissing ratios needed = any (isMissing ratios) needed
 
 -- 5: neither Ga nor Hg measured.
 unfoldable pub purityCellMissing : Record → Bool
@@ -54,7 +64,7 @@ impure s ratios = not (pure (toSilver (carried s .form)) (ratio ratios cell.Hg) 
 
 -- 7: the deviation of a cell given, used or not, is beyond its limit.
 unfoldable pub deviates : Record → Bool
-deviates ratios = any (λ (p : Cell). measured ratios p && not (within (Wr p) (ratio ratios p))) allCells
+deviates ratios = any (cellDeviates ratios) allCells
 
 -- A cell's x and δ.
 abbrev pub point : Record → Cell → Point

@@ -40,9 +40,12 @@ cellRatio p = if isGiven p then ratioOf (p .r .0) (p .r0 .0) else 0
 abbrev pub isOutside : Pair → Bool
 isOutside p = isGiven p && not (isReading (p .r .0) && isDivisor (p .r0 .0))
 
+abbrev pub cellOutside : Resistances → Cell → Bool
+cellOutside resistances p = isOutside (pair resistances p)
+
 -- 1: any of the seven is such a cell.
 unfoldable pub outside : Resistances → Bool
-outside resistances = any (λ (p : Cell). isOutside (pair resistances p)) allCells
+outside resistances = any (cellOutside resistances) allCells
 
 -- The record of the cells' ratios, in which one that rounds down to 0 counts as not measured.
 abbrev pub ratiosOf : Resistances → Record

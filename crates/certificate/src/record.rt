@@ -1,17 +1,15 @@
 // A record of cell ratios, its tests in their order, and the certificate that it yields.
 ghost use mathlib.Core.Path.{_≡_};
-ghost use mathlib.Core.Bool.{not, _&&_, false};
+ghost use mathlib.Core.Bool.{false};
 ghost use mathlib.Core.List.{map};
 ghost use lib.Dec.{ltb};
 ghost use Rattle.quantity.specs.Quantities.{largestRatio};
 ghost use Rattle.law.specs.Subranges.{cells};
 ghost use Rattle.law.specs.Listed.{listed};
-ghost use Rattle.law.specs.Cells.{Wr};
-ghost use Rattle.deviation.specs.Limits.{within as withinLimit};
 ghost use Rattle.fit.specs.Room.{Roomy, StandFor};
 ghost use Rattle.quantity.specs.Outcomes.{Follows};
 ghost use Rattle.certificate.specs.Certificate.{stated};
-ghost use Rattle.certificate.specs.Record.{ratio as ratioOf, measured as measuredBy, ratioAbove, cellMissing, purityCellMissing, impure as impureBy, deviates as deviatesBy, point as pointOf, fitted as fittedBy, aluminiumRatio, recordOf, recordRule};
+ghost use Rattle.certificate.specs.Record.{ratio as ratioOf, measured as measuredBy, ratioAbove, cellMissing, purityCellMissing, impure as impureBy, cellDeviates, deviates as deviatesBy, point as pointOf, fitted as fittedBy, aluminiumRatio, recordOf, recordRule};
 use crate::soundness::Certificate;
 use crate::soundness::CertificateAnswer;
 use deviation::Places;
@@ -46,7 +44,7 @@ pub struct Record {
     pub silver: Ratio,
 }
 
-fn above(w: Ratio) -> bool
+pub(crate) fn above(w: Ratio) -> bool
     ensures { λ b. ⌜ b ≡ ltb largestRatio (w .0) ⌝ }
 {
     quantity::LARGEST_RATIO < w.0
@@ -77,7 +75,7 @@ impl Record {
         Ratio(0)
     }
 
-    fn measured(self, cell: Cell) -> bool
+    pub(crate) fn measured(self, cell: Cell) -> bool
         ensures { λ b. ⌜ b ≡ measuredBy self cell ⌝ }
     {
         let w = self.ratio(cell);
@@ -85,7 +83,7 @@ impl Record {
     }
 
     // Whether any ratio is above 4.4.
-    fn ratio_above(self) -> bool
+    pub(crate) fn ratio_above(self) -> bool
         ensures { λ b. ⌜ b ≡ ratioAbove self ⌝ }
     {
         above(self.mercury)
@@ -98,7 +96,7 @@ impl Record {
     }
 
     // Whether a cell that the subrange needs was not measured.
-    fn cell_missing(self, needed: Cells) -> bool
+    pub(crate) fn cell_missing(self, needed: Cells) -> bool
         ensures { λ b. ⌜ b ≡ cellMissing self (listed needed) ⌝ }
     {
         match needed {
@@ -112,14 +110,14 @@ impl Record {
         }
     }
 
-    fn purity_cell_missing(self) -> bool
+    pub(crate) fn purity_cell_missing(self) -> bool
         ensures { λ b. ⌜ b ≡ purityCellMissing self ⌝ }
     {
         !(self.measured(Cell::Ga) | self.measured(Cell::Hg))
     }
 
     // Whether the purity relations are not met.
-    fn impure(self, subrange: Subrange) -> bool
+    pub(crate) fn impure(self, subrange: Subrange) -> bool
         ensures { λ b. ⌜ b ≡ impureBy subrange self ⌝ }
     {
         let to_silver = subrange.form().to_silver();
@@ -130,8 +128,8 @@ impl Record {
     }
 
     // Whether a cell was measured and its deviation is beyond its limit.
-    fn cell_deviates(self, cell: Cell) -> bool
-        ensures { λ b. ⌜ b ≡ (measuredBy self cell && not (withinLimit (Wr cell) (ratioOf self cell))) ⌝ }
+    pub(crate) fn cell_deviates(self, cell: Cell) -> bool
+        ensures { λ b. ⌜ b ≡ cellDeviates self cell ⌝ }
     {
         self.measured(cell) & !within(cell.reference(), self.ratio(cell))
     }

@@ -40,7 +40,7 @@ impl Pair {
         !((self.r.0 == 0) & (self.r0.0 == 0))
     }
 
-    fn is_outside(self) -> bool
+    pub(crate) fn is_outside(self) -> bool
         ensures { λ b. ⌜ b ≡ isOutside self ⌝ }
     {
         self.is_given() & !are_within(self.r, self.r0)
@@ -59,7 +59,7 @@ impl Pair {
 
 impl Resistances {
     // Whether R or R0 of any cell given is outside its limits.
-    fn outside(self) -> bool
+    pub(crate) fn outside(self) -> bool
         ensures { λ b. ⌜ b ≡ outsideBy self ⌝ }
     {
         self.mercury.is_outside()
@@ -72,7 +72,7 @@ impl Resistances {
     }
 
     // The record of the cells' ratios.
-    fn ratios(self) -> Record
+    pub(crate) fn ratios(self) -> Record
         requires { ⌜ outsideBy self ≡ false ⌝ }
         ensures { λ ratios. ⌜ ratios ≡ ratiosOf self ⌝ }
     {

@@ -17,7 +17,14 @@ mostMercury = 844_235_000
 abbrev pub leastSilver : ℕ
 leastSilver = 4_284_400_000
 
+-- The relations at gallium and at mercury, one being enough.
+abbrev pub byGalliumOrMercury : ℕ → ℕ → Bool
+byGalliumOrMercury mercury gallium = leb leastGallium gallium || isMeasured mercury && leb mercury mostMercury
+
+-- The relation at silver.
+abbrev pub bySilver : ℕ → Bool
+bySilver silver = leb leastSilver silver
+
 -- By the ratios at mercury, gallium and silver; whether silver is asked for, the subrange says.
 abbrev pub pure : Bool → ℕ → ℕ → ℕ → Bool
-pure toSilver mercury gallium silver =
-    (leb leastGallium gallium || isMeasured mercury && leb mercury mostMercury) && (not toSilver || leb leastSilver silver)
+pure toSilver mercury gallium silver = byGalliumOrMercury mercury gallium && (not toSilver || bySilver silver)

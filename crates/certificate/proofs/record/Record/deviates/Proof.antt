@@ -1,13 +1,9 @@
 -- `certificate::record::Record::deviates` meets its contract.
 use borrow.Author.Needs.{needs}
-use mathlib.Core.Bool.{Bool, _&&_, not}
 use mathlib.Core.List.{[], _∷_}
 use Rattle.whole.proofs.Any.{from-left}
-use Rattle.law.specs.declared.cell.Cell.{Cell}
 use Rattle.law.specs.declared.cell.Cell.the-variants.{Hg, Ga, In, Sn, Zn, Al, Ag}
-use Rattle.law.specs.Cells.{Wr}
-use Rattle.deviation.specs.Limits.{within}
-use Rattle.certificate.specs.Record.{ratio, measured, deviates}
+use Rattle.certificate.specs.Record.{cellDeviates, deviates}
 use Rattle.certificate.proofs.record.Record.deviates.Statement.{statement}
 use Rattle.certificate.proofs.record.Record.deviates.Tie as tie
 
@@ -41,8 +37,7 @@ returns c =
     let in' = sn .before in
     let ga = in' .before in
     let hg = ga .before in
-    let ratios = hg .before .args .self in
-    let far : Cell → Bool = λ (p : Cell). measured ratios p && not (within (Wr p) (ratio ratios p)) in
+    let far = cellDeviates (hg .before .args .self) in
     rw (hg .cell-deviates .ensures, ga .cell-deviates2 .ensures, in' .cell-deviates3 .ensures, sn .cell-deviates4 .ensures, zn .cell-deviates5 .ensures, al .cell-deviates6 .ensures, c .cell-deviates7 .ensures)
     (from-left (far Hg) (far Ga ∷ far In ∷ far Sn ∷ far Zn ∷ far Al ∷ far Ag ∷ []))
 

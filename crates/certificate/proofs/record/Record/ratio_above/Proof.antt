@@ -1,13 +1,9 @@
 -- `certificate::record::Record::ratio_above` meets its contract.
 use borrow.Author.Needs.{needs}
-use mathlib.Core.Bool.{Bool}
 use mathlib.Core.List.{[], _∷_}
-use lib.Dec.{ltb}
 use Rattle.whole.proofs.Any.{from-left}
-use Rattle.quantity.specs.Quantities.{largestRatio}
-use Rattle.law.specs.declared.cell.Cell.{Cell}
 use Rattle.law.specs.declared.cell.Cell.the-variants.{Hg, Ga, In, Sn, Zn, Al, Ag}
-use Rattle.certificate.specs.Record.{ratio, ratioAbove}
+use Rattle.certificate.specs.Record.{isAbove, ratioAbove}
 use Rattle.certificate.proofs.record.Record.ratio_above.Statement.{statement}
 use Rattle.certificate.proofs.record.Record.ratio_above.Tie as tie
 
@@ -41,7 +37,7 @@ returns c =
     let in' = sn .before in
     let ga = in' .before in
     let hg = ga .before in
-    let above : Cell → Bool = λ (p : Cell). ltb largestRatio (ratio (hg .before .args .self) p) in
+    let above = isAbove (hg .before .args .self) in
     rw (hg .above .ensures, ga .above2 .ensures, in' .above3 .ensures, sn .above4 .ensures, zn .above5 .ensures, al .above6 .ensures, c .above7 .ensures)
     (from-left (above Hg) (above Ga ∷ above In ∷ above Sn ∷ above Zn ∷ above Al ∷ above Ag ∷ []))
 

@@ -1,11 +1,9 @@
 -- `certificate::resistances::Resistances::outside` meets its contract.
 use borrow.Author.Needs.{needs}
-use mathlib.Core.Bool.{Bool}
 use mathlib.Core.List.{[], _∷_}
 use Rattle.whole.proofs.Any.{from-left}
-use Rattle.law.specs.declared.cell.Cell.{Cell}
 use Rattle.law.specs.declared.cell.Cell.the-variants.{Hg, Ga, In, Sn, Zn, Al, Ag}
-use Rattle.certificate.specs.Resistances.{pair, isOutside, outside}
+use Rattle.certificate.specs.Resistances.{cellOutside, outside}
 use Rattle.certificate.proofs.resistances.Resistances.outside.Statement.{statement}
 use Rattle.certificate.proofs.resistances.Resistances.outside.Tie as tie
 
@@ -39,7 +37,7 @@ returns c =
     let in' = sn .before in
     let ga = in' .before in
     let hg = ga .before in
-    let out : Cell → Bool = λ (p : Cell). isOutside (pair (hg .before .args .self) p) in
+    let out = cellOutside (hg .before .args .self) in
     rw (hg .is-outside .ensures, ga .is-outside2 .ensures, in' .is-outside3 .ensures, sn .is-outside4 .ensures, zn .is-outside5 .ensures, al .is-outside6 .ensures, c .is-outside7 .ensures)
     (from-left (out Hg) (out Ga ∷ out In ∷ out Sn ∷ out Zn ∷ out Al ∷ out Ag ∷ []))
 
