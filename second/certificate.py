@@ -78,14 +78,16 @@ def within_limit(cell, w):
     return abs(deviation(cell, w)) * DEVIATION_PART * RATIO_ONE <= abs(x) * UNITS_ONE
 
 
-def pure(name, record):
-    """Whether the record meets the purity relations; one of Ga and Hg is enough."""
+def impure_cells(name, record):
+    """The cells by which a record does not meet the purity relations; one of Ga and
+    Hg is enough. One of these two was measured."""
     ga = record["Ga"] >= GA_LEAST
     # What was not measured is 0, and must not pass for a low ratio.
     hg = record["Hg"] != NOT_MEASURED and record["Hg"] <= HG_MOST
+    if not (ga or hg):
+        yield "Hg" if record["Hg"] != NOT_MEASURED else "Ga"
     if name == "ag" and record["Ag"] < AG_LEAST:
-        return False
-    return ga or hg
+        yield "Ag"
 
 
 def working_deviation(a, b, c, x):
@@ -125,6 +127,12 @@ def coefficients(name, record):
     return a, b, c, quotient(quotient(e, z), z)
 
 
+def refuse(number, cells):
+    """Refused by the number for the first of these cells, where there is one."""
+    for cell in cells:
+        raise Refused(number, cell)
+
+
 def certify(name, ratios):
     """The certificate (name, a, b, c, d, W(Al)) of a record, or Refused.
 
@@ -134,18 +142,14 @@ def certify(name, ratios):
     if name not in SUBRANGES:
         raise Refused(3)
     record = {cell: ratios.get(cell, NOT_MEASURED) for cell in CELLS}
-    if any(w > RATIO_MOST for w in record.values()):
-        raise Refused(2)
-    if any(record[cell] == NOT_MEASURED for cell in SUBRANGES[name]):
-        raise Refused(4)
+    refuse(2, (cell for cell in CELLS if record[cell] > RATIO_MOST))
+    refuse(4, (cell for cell in SUBRANGES[name] if record[cell] == NOT_MEASURED))
     if record["Ga"] == NOT_MEASURED and record["Hg"] == NOT_MEASURED:
         raise Refused(5)
-    if not pure(name, record):
-        raise Refused(6)
+    refuse(6, impure_cells(name, record))
     # Each cell given, used or not.
     measured = [cell for cell in CELLS if record[cell] != NOT_MEASURED]
-    if not all(within_limit(cell, record[cell]) for cell in measured):
-        raise Refused(7)
+    refuse(7, (cell for cell in measured if not within_limit(cell, record[cell])))
     found = coefficients(name, record)
     if any(abs(value) > COEFFICIENT_MOST for value in found):
         raise Refused(7)
@@ -159,8 +163,8 @@ def ratios_of(resistances):
     A W that is rounded down to 0 stands for not measured, as in every record.
     """
     pairs = {c: pair for c, pair in resistances.items() if pair != NO_RESISTANCES}
-    if not all(within_limits(*pair) for pair in pairs.values()):
-        raise Refused(1)
+    given_cells = [cell for cell in CELLS if cell in pairs]
+    refuse(1, (cell for cell in given_cells if not within_limits(*pairs[cell])))
     return {cell: divided(*pair) for cell, pair in pairs.items()}
 
 

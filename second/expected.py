@@ -20,8 +20,9 @@ import tables
 from cases import CheckFailed
 from certificate import WR, certify, given
 from curve import allows, forward, read, tolerance
-from lists import answer
-from messages import shown
+from faults import refused_lines
+from lists import LISTS, answer
+from messages import said, shown
 from quantity import Refused, kelvin, quotient_down, ratio
 from reading import deviation_at
 from reference import BELOW, PAST, PAST_TOP, TOP, inverse, working
@@ -239,6 +240,23 @@ def bench(header, line):
     if head != BENCH_ANSWERS[header] or end != "":
         raise CheckFailed(f"list answered {made}")
     return answered
+
+
+def said_of(header, line):
+    """What is said of the first line of a list of `benchlist`."""
+    made = said("benchlist", crlf(f"{header}\n{line}\n")).decode("ascii")
+    return made.removeprefix("benchlist: line 2: ")
+
+
+JOINED = (
+    b"launchlist: line 2: lines are joined to one by a LF without CR, and none of them "
+    b"is answered; to mend the list: sed 's/\\r*$/\\r/' LIST\n"
+)
+
+
+def said_last(count):
+    """What is said last of so many lines joined by LF."""
+    return said("launchlist", LIST_HEAD + b"a\nb\r\n" * count).splitlines()[-1][:40]
 
 
 NO_RECORD = crlf("id,law,a,b,c,d,wal,code\n?,?,,,,,,10\n")
@@ -630,6 +648,48 @@ SELF_CHECKS = (
     ("line, 10 before 3", ILL, answers, row(law="pt", a="-0")),
     ("line, 3 before 7", "F1,pt,,3", answers, row(law="pt", a="1")),
     ("line, 7 before 1", "F1,curve,,7", answers, row(a="1", r="0")),
+    ("nothing said", b"", said, "launchlist", LIST),
+    (
+        "said on a terminal",
+        b"launchlist: lines answered: 2, refused: 1\n",
+        *(said, "launchlist", LIST, True),
+    ),
+    ("LF as byte 201", JOINED, said, "launchlist", LIST_HEAD + b"x" * 200 + b"\n"),
+    ("LF as byte 202", b"", said, "launchlist", LIST_HEAD + b"x" * 201 + b"\n"),
+    ("line 101", b"launchlist: line 101: lines are joined t", said_last, 100),
+    ("line 102", b"launchlist: more lines have a fault; onl", said_last, 101),
+    ("line 103", b"launchlist: more lines have a fault; onl", said_last, 102),
+    (
+        "said of 1",
+        "1, hg: its resistances are outside the limits\n",
+        *(said_of, RESISTANCES, "R1,ga,1,0,0,0" + FIVE_NOT_MEASURED),
+    ),
+    (
+        "said of 2",
+        "2, ag: its ratio is above 4.4\n",
+        *(said_of, RATIOS, "R1,ga,0,0,0,0,0,0,4400000001"),
+    ),
+    (
+        "said of 4",
+        "4, sn: the subrange needs this cell, and it was not measured\n",
+        *(said_of, RATIOS, "R1,ag,0,0,0,0,0,0,0"),
+    ),
+    ("said of 5", "", said_of, RATIOS, "R1,in,0,0,1609801850,0,0,0,0"),
+    (
+        "said of 6",
+        "6, ga: the purity relation is not met\n",
+        *(said_of, RATIOS, "R1,ga,0,1118069999,0,0,0,0,0"),
+    ),
+    (
+        "said of 7",
+        "7, ga: its deviation is beyond the limit\n",
+        *(said_of, RATIOS, "R1,ga,0,1200000000,0,0,0,0,0"),
+    ),
+    (
+        "said of 7 for d",
+        "7: a coefficient is beyond its limit\n",
+        *(said_of, RATIOS, f"R1,ag,{FIVE_CELLS},3376008600,4284400000"),
+    ),
     ("bench, empty input", NO_RECORD, benchlist, b""),
     ("bench, header of launchlist", NO_RECORD, benchlist, LIST),
     ("launchlist, header of bench", WRONG_HEADER, launchlist, crlf(FORWARD + "\n")),
@@ -906,6 +966,9 @@ def self_check():
         found = outcome(function, arguments)
         if found != due:
             raise CheckFailed(f"{what}: {found}, due {due}")
+    # Each of these lines is tested where it is given.
+    for one in LISTS.values():
+        list(refused_lines(one))
 
 
 def compare(file, made):

@@ -14,6 +14,7 @@ import reading_families
 import record_families
 import tolerance_families
 from cases import CheckFailed
+from certificate import CELLS
 from family import check_family, code_of, part, parts
 from lists import FORWARD, RATIOS, READINGS, RESISTANCES, TOLERANCE, WRONG_LENGTH
 from promises import Survey, check_seen, in_thousandths
@@ -54,6 +55,18 @@ ORDERS = {
 }
 ORDER_LEAST = 3
 
+# Each refusal of a record with the cells it was for; None where it is for none.
+RECORD_CELLS = {
+    3: (None,),
+    2: CELLS,
+    4: ("Ga", "In", "Sn", "Zn", "Al", "Ag"),
+    5: (None,),
+    6: ("Hg", "Ga", "Ag"),
+    7: (*CELLS, None),
+}
+REFUSED_FOR = {"record": RECORD_CELLS, "measured": {1: CELLS, **RECORD_CELLS}}
+CELL_LEAST = 50
+
 # The numbers that a list gives to lines of its families, 0 with an answer.
 CODES = {
     READINGS: (0, 1, 2, 3, 7, 8, 9),
@@ -74,6 +87,17 @@ def check_orders(orders):
                     raise CheckFailed(f"{call}: {first} before {later} {count} times")
 
 
+def check_cells(cells):
+    """That each refusal of a record was for each cell it can be for, and no other."""
+    least = {
+        (call, number, cell): CELL_LEAST
+        for call, numbers in REFUSED_FOR.items()
+        for number in numbers
+        for cell in numbers[number]
+    }
+    check_seen("records", cells, least)
+
+
 def check_codes(codes):
     """That each list gave each of its numbers, and no other."""
     least = {(one.name, code): CODE_LEAST for one in CODES for code in CODES[one]}
@@ -83,6 +107,7 @@ def check_codes(codes):
 def tell():
     """Tells what each family met."""
     orders = Counter()
+    cells = Counter()
     codes = Counter()
     for family in FAMILIES:
         survey = Survey()
@@ -92,6 +117,7 @@ def tell():
                 counts[one.name] += len(lines)
                 codes.update((one.name, code_of(due)) for _, due in lines)
         orders += survey.orders
+        cells += survey.cells
         print(f"{family.name}: {family.size} cases, {dict(counts)}")
         for what, count in sorted(survey.seen.items(), key=str):
             print(f"  {what}: {count}")
@@ -101,9 +127,12 @@ def tell():
         check_family(family, survey.seen)
     for (call, pair), count in sorted(orders.items()):
         print(f"{call}, {pair}: {count}")
+    for (call, number, cell), count in sorted(cells.items(), key=str):
+        print(f"{call}, {number} for {cell}: {count}")
     for (name, code), count in sorted(codes.items()):
         print(f"{name}, code {code}: {count}")
     check_orders(orders)
+    check_cells(cells)
     check_codes(codes)
 
 

@@ -1,14 +1,16 @@
 """Whole inputs of a list, for the edges of the program that reads it: name and
 bytes of each.
 
-Wrong headers, last lines cut short, and lists that end at, before or past the end
-of a block.
+Wrong headers, last lines cut short, lists that end at, before or past the end of a
+block, and lists with lines of which something is said.
 """
 
 from functools import lru_cache
+from itertools import chain, cycle, islice
 
 from cases import CheckFailed, Generator
 from damage import BYTE_ORDER_MARK, CR, LF, LONG, NUL
+from faults import refused_lines
 from lists import COMMA, LINE_END
 from samples import GOOD, NEXT, drawn_line
 
@@ -140,6 +142,78 @@ def row_runs(one):
     yield "header, 100000 CR", listed(one) + CR * 100000
     yield "header, 5000 LF CR", listed(one) + (LF + CR) * 5000
     yield "header, 5000 empty lines", listed(one) + LINE_END * 5000
+    yield "LF after long and empty lines", listed(one, *unlike_lines())
+
+
+# Lines of which something is said, or nearly.
+
+TWO = b"a" + LF + b"b"
+
+# The last place at which a LF is looked for is byte 201.
+PLACES = (199, 200, 201, 202)
+
+
+def unlike_lines():
+    """Lines long and empty, and some that a LF joins."""
+    long = b"x" * LONG
+    yield from (b"", TWO, long, TWO, long + LF, TWO, LF + long, long + LF + long)
+    yield from (CR, TWO, CR + CR, NUL, TWO, COMMA, TWO, b"", b"")
+
+
+def feeds_in_long_lines(good):
+    """Long lines with a LF about the last place at which it is looked for: at their
+    end, before a CR, inside, after a good line and after a CR."""
+    for place in PLACES:
+        start = b"x" * (place - 1) + LF
+        yield from (start, start + CR, start.ljust(300, b"x"), good)
+        yield good.ljust(place - 1) + LF + good
+        yield b"x" * (place - 3) + CR + b"x" + LF
+
+
+def joined_inputs(one):
+    """Lists with lines that a LF joins."""
+    good = GOOD[one]
+    start = listed(one, good)
+    for count in (99, 100, 101, 102, 300):
+        yield f"{count} lines joined by LF", listed(one, *[TWO] * count, good)
+    yield "LF in long lines", listed(one, *feeds_in_long_lines(good))
+    yield "LF in the last line", start + TWO
+    yield "LF CR in the last line", start + b"a" + LF + CR
+    for place in PLACES:
+        last = start + b"x" * (place - 1) + LF
+        yield f"LF as byte {place} of the last line", last
+        yield f"LF as byte {place} of the last line, CR", last + CR
+        yield f"LF as byte {place} of the last line, more", last + b"x" * 9
+
+
+REFUSED_PART = 40  # lines
+
+
+def with_joined(lines):
+    """The lines, and after each one that a LF joins."""
+    return chain.from_iterable((line, TWO) for line in lines)
+
+
+def refused_inputs(one):
+    """Lists with refused lines; where these are records, something is said."""
+    good = GOOD[one]
+    lines = list(refused_lines(one))
+    yield "refused lines", listed(one, *lines)
+    for first in range(0, len(lines), REFUSED_PART):
+        some = [(line, good) for line in lines[first:][:REFUSED_PART]]
+        data = listed(one, *chain.from_iterable(some))
+        yield f"refused lines from {first} on, good ones between", data
+    for count in (100, 101):
+        yield f"{count} refused lines", listed(one, *lines[:1] * count, good)
+    both = list(islice(cycle(with_joined(lines)), 100))
+    yield "50 refused lines, 50 joined by LF", listed(one, *both, good)
+    yield "51 refused lines, 50 joined by LF", listed(one, *both, lines[0], good)
+
+
+def said_inputs(one):
+    """Lists about what is said of lines, each small enough to be fed slowly."""
+    yield from joined_inputs(one)
+    yield from refused_inputs(one)
 
 
 BLOCKS = (4096, 8192, 65536, 131072)
@@ -195,10 +269,25 @@ def block_runs(one):
         yield f"CR but no LF at byte {size}", cut.removesuffix(LF) + after
         long = b"x" * 201 + LINE_END
         yield f"line too long at byte {size}", filled(one, size - 200) + long + after
+        # A line ended by LF alone, and so joined to the next.
+        lines = filled(one, size + 1).removesuffix(LINE_END)
+        yield f"LF but no CR at byte {size}", lines + LF + after
+        yield f"LF but no CR after byte {size}", open_end + LF + after
 
 
-def big_list(one):
-    lines = [numbered(i, tails(one)[i % len(tails(one))]) for i in range(BIG)]
+def big_lines(one):
+    return [numbered(i, tails(one)[i % len(tails(one))]) for i in range(BIG)]
+
+
+FAULT_EVERY = 400  # lines, so that less than a hundred are said
+
+
+def big_faulty(one):
+    """The big list with refused lines and such that a LF joins in it."""
+    lines = big_lines(one)
+    faults = cycle(with_joined(refused_lines(one)))
+    for place in range(FAULT_EVERY, BIG, FAULT_EVERY):
+        lines[place] = next(faults)
     return listed(one, *lines)
 
 
@@ -207,4 +296,6 @@ def whole_inputs(one):
     yield from edge_runs(one)
     yield from row_runs(one)
     yield from block_runs(one)
-    yield "big list", big_list(one)
+    yield from said_inputs(one)
+    yield "big list", listed(one, *big_lines(one))
+    yield "big list with faults", big_faulty(one)

@@ -119,11 +119,12 @@ class List:
     # Long lists ask for the same many times.
     @lru_cache(maxsize=20000)
     def outcome_of(self, label, *numbers):
-        """What stands between law and code, or the number of the refusal."""
+        """What stands between law and code, or the number of the refusal; and the
+        first cell at fault, where a record is refused for one."""
         try:
-            return tuple(self.ask(label, *numbers))
+            return tuple(self.ask(label, *numbers)), None
         except Refused as refused:
-            return refused.number
+            return refused.number, refused.cell
 
     def answer_line(self, line):
         """The answer to one line after the header, both without CRLF."""
@@ -131,7 +132,8 @@ class List:
         if fault is not None:
             return self.refusal("?", "?", fault)
         name, label, *numbers = self.values_of(line)
-        return self.written(name, label, self.outcome_of(label, *numbers))
+        outcome, _ = self.outcome_of(label, *numbers)
+        return self.written(name, label, outcome)
 
 
 def reading_of(law, r, r0, *places):
@@ -206,6 +208,9 @@ LISTS = {one.name: one for known in PROGRAMS.values() for one in known}
 
 PROGRAM_OF = {one: program for program, known in PROGRAMS.items() for one in known}
 
+# The lists whose lines are records.
+RECORDS = (RATIOS, RESISTANCES)
+
 
 def lines_of(data):
     """The lines without their CRLF."""
@@ -221,12 +226,18 @@ def joined(lines):
     return b"".join(line + LINE_END for line in lines)
 
 
+def list_of(program, data):
+    """The list of the program whose header is the first line of `data`, or None."""
+    # No header is empty, so an empty input has a wrong one.
+    first, *_ = data.split(LINE_END, 1)
+    return next((one for one in PROGRAMS[program] if one.header == first), None)
+
+
 def answer(program, data):
     """All that the program writes where it reads `data`."""
-    lines = lines_of(data)
-    for known in PROGRAMS[program]:
-        # An empty input has no header, hence a wrong one.
-        if lines[:1] == [known.header]:
-            return joined([known.answer_header, *map(known.answer_line, lines[1:])])
-    first = PROGRAMS[program][0]
-    return joined([first.answer_header, first.refusal("?", "?", WRONG_HEADER)])
+    one = list_of(program, data)
+    if one is None:
+        first = PROGRAMS[program][0]
+        return joined([first.answer_header, first.refusal("?", "?", WRONG_HEADER)])
+    _, *lines = lines_of(data)
+    return joined([one.answer_header, *map(one.answer_line, lines)])

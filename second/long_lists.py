@@ -13,8 +13,8 @@ from threading import Thread, Timer
 
 import damage
 from cases import Generator
-from lists import COMMA, LINE_END, joined
-from messages import shown
+from lists import COMMA, LINE_END, PROGRAM_OF, joined, lines_of
+from messages import first_unlike, said_of_lines, shown, written
 from samples import drawn_line
 
 SEED = 901
@@ -42,6 +42,12 @@ def block_for(one):
 
 def in_round(block, turn):
     return block.replace(ROUND, b"%d" % turn)
+
+
+def all_lines(block, rounds):
+    """The lines after the header, one after the other."""
+    for turn in range(rounds):
+        yield from lines_of(in_round(block, turn))
 
 
 def memory_of(process):
@@ -121,10 +127,14 @@ def run(command, one, count, limit):
         feeder.start()
         header = one.answer_header
         yield from list(differences(process.stdout, header, dues, rounds))[:1]
+        # At most a hundred messages and one, which the pipe has held.
         said = process.stderr.read()
         feeder.join()
         status = process.wait()
         watch.cancel()
-    if status != 0 or said != b"":
-        yield f"ended with status {status} and said {shown(said)}"
+    if status != 0:
+        yield f"ended with status {status}"
+    due = written(said_of_lines(PROGRAM_OF[one], one, all_lines(block, rounds)))
+    if said != due:
+        yield f"says {first_unlike(said, due)}"
     yield from growth(feeder.memory)

@@ -1,6 +1,8 @@
 """How bytes stand in a message, and what the programs say on standard error."""
 
-from lists import PROGRAMS, lines_of
+from itertools import islice, zip_longest
+
+from lists import LINE_MOST, PROGRAMS, RECORDS, answer, lines_of, list_of
 
 MOST = 260
 
@@ -21,6 +23,27 @@ SEMICOLONS = "it has semicolons: separate the fields by commas"
 BLANKS = "it has blanks: write the header without them"
 FEEDS = "its lines end with LF alone, and CRLF is wanted: sed 's/$/\\r/' LIST"
 
+# So many first bytes of a line are looked at for a LF.
+LOOKED_AT = LINE_MOST + 1
+
+SAID_MOST = 100  # messages of lines
+
+JOINED = (
+    "lines are joined to one by a LF without CR, and none of them is answered; "
+    "to mend the list: sed 's/\\r*$/\\r/' LIST"
+)
+# Of a record's refusals, what is said of the first cell at fault.
+OF_CELL = {
+    1: "its resistances are outside the limits",
+    2: "its ratio is above 4.4",
+    4: "the subrange needs this cell, and it was not measured",
+    6: "the purity relation is not met",
+    7: "its deviation is beyond the limit",
+}
+OF_COEFFICIENT = "7: a coefficient is beyond its limit"
+COUNTED = "lines answered"
+MORE = f"more lines have a fault; only the first {SAID_MOST} are said"
+
 
 def shown(data):
     if data is None:
@@ -29,9 +52,14 @@ def shown(data):
     return text if len(text) <= MOST else f"{text[:MOST]}.. of {len(data)} bytes"
 
 
-def has_right_header(program, data):
-    first = lines_of(data)[:1]
-    return any(first == [known.header] for known in PROGRAMS[program])
+def first_unlike(came, due):
+    """The first line that is not as due, and what is due there, both shown."""
+    pairs = zip_longest(came.split(LF), due.split(LF))
+    in_came, in_due = next(pair for pair in pairs if pair[0] != pair[1])
+    return f"{shown(in_came)}, due {shown(in_due)}"
+
+
+# Of a wrong header.
 
 
 def first_line(kept):
@@ -62,19 +90,70 @@ def printable(byte):
     return chr(byte) if 0x20 <= byte <= 0x7E else "."
 
 
-def said(program, data):
-    """All that the program says on standard error where it reads `data`."""
-    if has_right_header(program, data):
-        return b""
+def said_of_header(program, data):
+    """What is said of a wrong header."""
     line, _ = first_line(data[:KEPT])
     headers = [known.header.decode("ascii") for known in PROGRAMS[program]]
-    text = [
-        f"{program}: the first line is not the header of a list that it answers",
-        "  read:     " + "".join(map(printable, line)),
-        "  expected: " + headers[0],
-        *("        or: " + header for header in headers[1:]),
-    ]
+    yield f"{program}: the first line is not the header of a list that it answers"
+    yield "  read:     " + "".join(map(printable, line))
+    yield "  expected: " + headers[0]
+    yield from ("        or: " + header for header in headers[1:])
     why = reason(data)
     if why is not None:
-        text.append("  " + why)
-    return "".join(part + "\n" for part in text).encode("ascii")
+        yield "  " + why
+
+
+# Of the lines after a right one.
+
+
+def said_of_record(outcome, cell):
+    """What is said of a record with this outcome, or None."""
+    if cell is not None:
+        return f"{outcome}, {cell.lower()}: {OF_CELL[outcome]}"
+    return OF_COEFFICIENT if outcome == 7 else None
+
+
+def said_of_line(one, line):
+    """What is said of a line after the header, or None."""
+    # No field takes a LF, so that the line is ill-formed.
+    if LF in line[:LOOKED_AT]:
+        return JOINED
+    if one not in RECORDS or one.fault_of(line) is not None:
+        return None
+    _, subrange, *numbers = one.values_of(line)
+    return said_of_record(*one.outcome_of(subrange, *numbers))
+
+
+def said_of_lines(program, one, lines):
+    """What is said of these lines, which are all after the header: of the first
+    hundred with a fault, and then once that there are more. No line past that is
+    looked at."""
+    numbered = ((n, said_of_line(one, line)) for n, line in enumerate(lines, 2))
+    faults = (f"line {n}: {fault}" for n, fault in numbered if fault is not None)
+    yield from (f"{program}: {fault}" for fault in islice(faults, SAID_MOST))
+    if next(faults, None) is not None:
+        yield f"{program}: {MORE}"
+
+
+def said_at_end(program, data):
+    """The lines after the header counted by their code: 0, and any other."""
+    _, *answers = lines_of(answer(program, data))
+    answered = sum(line.endswith(b",0") for line in answers)
+    return f"{program}: {COUNTED}: {answered}, refused: {len(answers) - answered}"
+
+
+def written(messages):
+    return "".join(message + "\n" for message in messages).encode("ascii")
+
+
+def said(program, data, terminal=False):
+    """All that the program says on standard error where it reads `data`; on a
+    terminal also how many lines it has answered."""
+    one = list_of(program, data)
+    if one is None:
+        return written(said_of_header(program, data))
+    _, *lines = lines_of(data)
+    messages = list(said_of_lines(program, one, lines))
+    if terminal:
+        messages.append(said_at_end(program, data))
+    return written(messages)

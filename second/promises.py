@@ -44,6 +44,8 @@ class Survey:
         self.seen = Counter()
         # Refusals that had a cause too and were not given, another being first.
         self.orders = Counter()
+        # Refusals of records, with the cell each was for.
+        self.cells = Counter()
         # Demand 3 on each answered scale reading: the largest excess over the
         # result at the step answered, and under it at the next.
         self.over = None
@@ -57,6 +59,7 @@ class Survey:
         """Takes in what another part of the family met."""
         self.seen += other.seen
         self.orders += other.orders
+        self.cells += other.cells
         if other.over is not None:
             self.note_excesses(other.over, other.under)
 
@@ -70,12 +73,18 @@ def check_seen(name, seen, least):
         raise CheckFailed(f"family {name}: {set(seen) - set(least)} cannot occur")
 
 
+def outcome_and_cell(function, *arguments):
+    """The answer, or the number of the refusal; and the cell that this is for."""
+    try:
+        return function(*arguments), None
+    except Refused as refused:
+        return refused.number, refused.cell
+
+
 def outcome(function, *arguments):
     """The answer, or the number of the refusal."""
-    try:
-        return function(*arguments)
-    except Refused as refused:
-        return refused.number
+    answer, _ = outcome_and_cell(function, *arguments)
+    return answer
 
 
 def ratio_of(r, r0):
@@ -411,25 +420,31 @@ def beyond_limit(cell, w):
 
 
 def impure(name, record):
-    """Whether purity is not met."""
+    """The cells for which purity is not met: of mercury and gallium those measured
+    stand first, and silver last."""
+    cells = []
+    if record["Ga"] < GA_LEAST and not 0 < record["Hg"] <= HG_MOST:
+        cells = sorted(("Hg", "Ga"), key=lambda cell: record[cell] == NOT_MEASURED)
     if name == "ag" and record["Ag"] < AG_LEAST:
-        return True
-    return record["Ga"] < GA_LEAST and not 0 < record["Hg"] <= HG_MOST
+        cells.append("Ag")
+    return cells
 
 
 def record_causes(name, record):
-    """Of 7, the deviation limit; a coefficient's size comes after all of these.
+    """The causes, those of a cell as the list of such cells, the first to be named
+    first. Of 7, the deviation limit; a coefficient's size comes after all of these.
 
     What cells an unknown subrange needs nobody knows.
     """
     measured = [cell for cell in CELLS if record[cell] != NOT_MEASURED]
+    needed = SUBRANGES.get(name, ())
     return {
         3: name not in SUBRANGES,
-        2: any(record[cell] > RATIO_MOST for cell in measured),
-        4: not set(SUBRANGES.get(name, ())) <= set(measured),
+        2: [cell for cell in measured if record[cell] > RATIO_MOST],
+        4: [cell for cell in CELLS if cell in needed and cell not in measured],
         5: "Ga" not in measured and "Hg" not in measured,
         6: impure(name, record),
-        7: any(beyond_limit(cell, record[cell]) for cell in measured),
+        7: [cell for cell in measured if beyond_limit(cell, record[cell])],
     }
 
 
@@ -442,7 +457,8 @@ def check_by_coefficient(name, record):
 
 
 def check_certificate(call, causes, name, record, answer, survey):
-    """That what a record gives, a certificate or a refusal, is due to it."""
+    """That what a record gives, a certificate or the number of a refusal, is due to
+    it."""
     asked = (name, record)
     if isinstance(answer, tuple):
         check_first(call, causes, None, asked, survey)
@@ -459,6 +475,16 @@ def check_certificate(call, causes, name, record, answer, survey):
     survey.seen[answer] += 1
 
 
+def check_cell(call, causes, number, cell, survey):
+    """That a refusal is for the first cell with the cause. By 3, 5 and for the size
+    of a coefficient it is for none."""
+    cells = causes[number] if isinstance(causes[number], list) else []
+    due = cells[0] if cells else None
+    if cell != due:
+        raise CheckFailed(f"{call}: {number} for {cell}, due {due} of {causes}")
+    survey.cells[call, number, cell] += 1
+
+
 def record_of(resistances):
     """The record that resistances give, those outside their limits too."""
     return {cell: ratio_of(*resistances[cell]) for cell in CELLS}
@@ -467,8 +493,9 @@ def record_of(resistances):
 def measured_causes(name, resistances):
     """1 for any cell with a number in it, then those of the record of ratios."""
     by_ratio = record_causes(name, record_of(resistances))
-    outside = [outside_limits(*pair) for pair in resistances.values() if any(pair)]
-    return {3: by_ratio.pop(3), 1: any(outside), **by_ratio}
+    filled = [cell for cell in CELLS if any(resistances[cell])]
+    outside = [cell for cell in filled if outside_limits(*resistances[cell])]
+    return {3: by_ratio.pop(3), 1: outside, **by_ratio}
 
 
 # Tolerance tests.

@@ -18,11 +18,13 @@ UNITS_ONE = 10**11
 
 
 class Refused(Exception):
-    """No answer; `number` is the one of "Numbers given when there is no answer"."""
+    """No answer; `number` is the one of "Numbers given when there is no answer", and
+    `cell`, in a record, the first cell at fault, where it is the fault of one."""
 
-    def __init__(self, number):
+    def __init__(self, number, cell=None):
         super().__init__(f"refused {number}")
         self.number = number
+        self.cell = cell
 
 
 def quotient_down(z, d):

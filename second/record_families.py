@@ -31,7 +31,7 @@ from draws import (
 )
 from family import Family, Line, for_each
 from lists import ID_MOST, LINE_MOST, RATIOS, RESISTANCES, line_of
-from promises import Survey, outcome
+from promises import Survey, outcome_and_cell
 from quantity import DIVISOR_LEAST, RATIO_ONE, RESISTANCE_MOST, UNITS_ONE
 
 NAMES = tuple(SUBRANGES)
@@ -41,9 +41,11 @@ NAMES = tuple(SUBRANGES)
 
 def certified(name, record, survey):
     """The line of a record, its promises tested."""
-    answer = outcome(certify, name, record)
+    answer, cell = outcome_and_cell(certify, name, record)
     causes = promises.record_causes(name, record)
     promises.check_certificate("record", causes, name, record, answer, survey)
+    if not isinstance(answer, tuple):
+        promises.check_cell("record", causes, answer, cell, survey)
     result = answer[1:] if isinstance(answer, tuple) else answer
     return Line(RATIOS, (name, *(record[cell] for cell in CELLS)), result)
 
@@ -161,13 +163,16 @@ def fits_case(generator, i, survey):
 
 def measured(name, pairs, survey):
     """The line of a record of resistances, its promises tested."""
-    answer = outcome(certify_measured, name, pairs)
+    answer, cell = outcome_and_cell(certify_measured, name, pairs)
     causes = promises.measured_causes(name, pairs)
     record = promises.record_of(pairs)
     promises.check_certificate("measured", causes, name, record, answer, survey)
+    if not isinstance(answer, tuple):
+        promises.check_cell("measured", causes, answer, cell, survey)
     # As by the ratios, where nothing is outside its limits.
-    if answer not in (1, 3) and answer != outcome(certify, name, record):
-        raise CheckFailed(f"{name} {pairs} gives {answer}, not as its ratios")
+    if answer not in (1, 3):
+        if (answer, cell) != outcome_and_cell(certify, name, record):
+            raise CheckFailed(f"{name} {pairs} gives {answer}, not as its ratios")
     numbers = [number for cell in CELLS for number in pairs[cell]]
     result = answer[1:] if isinstance(answer, tuple) else answer
     return Line(RESISTANCES, (name, *numbers), result)

@@ -14,21 +14,23 @@ import sys
 sys.dont_write_bytecode = True
 
 import os
+import pty
 import subprocess
 import time
+import tty
 from concurrent.futures import ThreadPoolExecutor
 from contextlib import suppress
 from functools import lru_cache
-from itertools import zip_longest
+from itertools import chain, zip_longest
 from pathlib import Path
 from tempfile import TemporaryFile
 from threading import Event, Timer
 
 from damage import CR
-from inputs import example, whole_inputs
+from inputs import example, said_inputs, whole_inputs
 from launchlist_cases import stdin
 from lists import LINE_END, PROGRAMS, answer
-from messages import said, shown
+from messages import COUNTED, first_unlike, said, shown
 
 USAGE = """\
 usage: python3 second/runs.py COMMAND [ARGUMENT ..]
@@ -97,6 +99,34 @@ def run(command, parts=(), pause=0, **streams):
         return status, out.read(), err.read()
 
 
+def drained(end):
+    """All that comes from a terminal until nothing is left at its other end."""
+    came = []
+    # The system tells by an error that nothing is.
+    with suppress(OSError):
+        while piece := os.read(end, AT_ONCE):
+            came.append(piece)
+    return b"".join(came)
+
+
+def run_on_terminal(command, data, stream, **streams):
+    """A run with this stream, standard output or error, on a terminal that changes
+    no byte; and what came there."""
+    ours, theirs = pty.openpty()
+    try:
+        tty.setraw(theirs)
+        streams[stream] = theirs
+        with ThreadPoolExecutor(1) as reader:
+            came = reader.submit(drained, ours)
+            try:
+                ended = run(command, pieces(data, AT_ONCE), **streams)
+            finally:
+                os.close(theirs)
+        return ended, came.result()
+    finally:
+        os.close(ours)
+
+
 def must_have_ended(status):
     if status != 0:
         raise Failed(f"ended with status {status}")
@@ -128,15 +158,15 @@ def program_of(command):
     return Path(command[-1]).name
 
 
-def must_answer(command, data, status, out, err):
+def must_answer(command, data, status, out, err, terminal=False):
     """The answer due to the data on standard output, on standard error what is to
-    be said of it."""
+    be said of it, on a terminal or not."""
     program = program_of(command)
     must_have_ended(status)
     must_be(out, answer(program, data))
-    due = said(program, data)
+    due = said(program, data, terminal)
     if err != due:
-        raise Failed(f"standard error holds {shown(err)}, due {shown(due)}")
+        raise Failed(f"standard error holds {first_unlike(err, due)}")
 
 
 def check_list(command, data, parts, pause=0):
@@ -150,6 +180,18 @@ def check_file(command, data):
         file.write(data)
         file.seek(0)
         must_answer(command, data, *run(command, stdin=file))
+
+
+def check_terminal(command, data):
+    """A list with standard error on a terminal: the lines are counted."""
+    (status, out, _), err = run_on_terminal(command, data, "stderr")
+    must_answer(command, data, status, out, err, terminal=True)
+
+
+def check_answers_on_terminal(command, data):
+    """A list with standard output alone on a terminal: they are not."""
+    (status, _, err), out = run_on_terminal(command, data, "stdout")
+    must_answer(command, data, status, out, err)
 
 
 @lru_cache(maxsize=None)
@@ -196,6 +238,15 @@ def check_full(command, data):
     must_complain(status, err)
 
 
+def check_full_terminal(command, data):
+    """The same with standard error on a terminal: no lines are counted."""
+    with open(FULL_DEVICE, "wb") as device:
+        ended, err = run_on_terminal(command, data, "stderr", stdout=device)
+    must_complain(ended[0], err)
+    if COUNTED.encode("ascii") in err:
+        raise Failed(f"standard error holds {shown(err)}")
+
+
 def run_unread(command, data, **signals):
     """A run whose standard output is a pipe that nobody reads any more."""
     reader, writer = os.pipe()
@@ -240,6 +291,29 @@ IN_PIECES = (
     ("big list", 4095),
 )
 
+# Inputs of which something may be said are fed slowly too: such small ones byte by
+# byte, the others by so many.
+SMALL = 5000
+FEW = 7
+
+ON_TERMINAL = (
+    "empty",
+    "header",
+    "header without CRLF",
+    "header, LF",
+    "wrong header: trailing space",
+    "example",
+    "example without last CRLF",
+    "example, LF at the end",
+    "empty rows about a good one",
+    "rows joined by LF",
+    "100 lines joined by LF",
+    "300 lines joined by LF",
+    "refused lines",
+    "51 refused lines, 50 joined by LF",
+    "big list with faults",
+)
+
 TOO_MANY = (
     ("list.csv",),
     ("-h",),
@@ -259,6 +333,19 @@ def list_checks(one):
     for name, data in inputs.items():
         yield name, check_list, data, pieces(data, AT_ONCE)
     yield "example from a file", check_file, inputs["example"]
+    for name in ON_TERMINAL:
+        yield f"{name}, on a terminal", check_terminal, inputs[name]
+    name, data = "refused lines", inputs["refused lines"]
+    yield f"{name}, answers on a terminal", check_answers_on_terminal, data
+    for name in ("example", "big list"):
+        if FULL_DEVICE.is_char_device():
+            full = f"{name}, full device, on a terminal"
+            yield full, check_full_terminal, inputs[name]
+
+
+def slow_checks(one):
+    """The same of the runs on a list in small pieces."""
+    inputs = dict(whole_inputs(one))
     for name in BYTE_BY_BYTE:
         slow = pieces(inputs[name], 1)
         yield f"{name}, byte by byte", check_list, inputs[name], slow, PAUSE
@@ -268,6 +355,10 @@ def list_checks(one):
     for name in ("4097 bytes", "rows joined by CR", "CR before CRLF"):
         slow = cut_after(inputs[name], CR)
         yield f"{name}, cut after each CR", check_list, inputs[name], slow, PAUSE
+    for name, data in said_inputs(one):
+        size = 1 if len(data) < SMALL else FEW
+        slow = pieces(data, size)
+        yield f"{name}, by {size} bytes", check_list, data, slow, PAUSE
 
 
 def launchlist_checks():
@@ -282,7 +373,7 @@ def launchlist_checks():
 
 def all_list_checks(command):
     for one in PROGRAMS[program_of(command)]:
-        for name, *check in list_checks(one):
+        for name, *check in chain(list_checks(one), slow_checks(one)):
             yield f"{one.name}, {name}", *check
     if program_of(command) == "launchlist":
         yield from launchlist_checks()
