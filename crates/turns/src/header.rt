@@ -1,18 +1,8 @@
 // What is said of a wrong header, for people: what was read, what was expected, and the usual reason where one is seen.
 use crate::first::First;
-use libc::STDERR_FILENO;
+use crate::people::say;
+use crate::people::say_name;
 use list::Desk;
-
-fn say(text: &[u8]) -> bool {
-    io::write_all(STDERR_FILENO, text)
-}
-
-fn say_name(desk: Desk) -> bool {
-    match desk {
-        Desk::Launch => say(b"launchlist: "),
-        Desk::Bench => say(b"benchlist: "),
-    }
-}
 
 fn say_expected(desk: Desk) -> bool {
     match desk {

@@ -1,9 +1,13 @@
-// What the programs over lists share: what they were asked, the turns from standard input to standard output, and what is said of a wrong header.
+// What the programs over lists share: what they were asked, the turns from standard input to standard output, and what is said to people: of a wrong header, of rows, and how many there were.
 mod asked;
+mod faults;
 mod first;
 mod header;
+mod people;
+mod rows;
 mod status;
 mod turns;
+mod words;
 
 pub use asked::Asked;
 pub use asked::what_is_asked;

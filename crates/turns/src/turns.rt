@@ -6,6 +6,8 @@ ghost use Rattle.list.specs.Kinds.{room};
 use crate::first::First;
 use crate::first::nothing_yet;
 use crate::header::say_wrong;
+use crate::rows::Counts;
+use crate::rows::nothing_said;
 use libc::STDIN_FILENO;
 use libc::STDOUT_FILENO;
 use list::Desk;
@@ -20,10 +22,11 @@ pub enum Next {
     Stop,
 }
 
-// The state after a turn, the first bytes of the input, and what comes next.
+// The state after a turn, the first bytes of the input, the lines so far, and what comes next.
 pub struct Turn {
     pub state: State,
     pub first: First,
+    pub counts: Counts,
     pub next: Next,
 }
 
@@ -69,35 +72,56 @@ fn first_with(first: First, stage: Stage, chunk: &[u8]) -> First {
 }
 
 // Feeds all of a chunk, and writes what is answered.
-fn drain(desk: Desk, begun: State, first: First, chunk: &[u8], out: &mut [u8]) -> Turn
+fn drain(
+    desk: Desk,
+    begun: State,
+    first: First,
+    so_far: Counts,
+    chunk: &[u8],
+    out: &mut [u8],
+) -> Turn
     requires { ⌜ room Desk.Bench ≤ length (now out) ⌝ }
 {
     let mut state = begun;
+    let mut counts = so_far;
     let mut at = 0;
     while at < chunk.len() {
         let fed = list::feed(state, &chunk[at..], out);
         let n = fed.wrote;
+        let end = at + fed.used;
         let later = fed.state;
+        let stage = later.stage;
+        let tally = fed.tally;
+        counts = counts.after_feeding(desk, state, &chunk[at..end], stage, tally);
         state = later;
         if !wrote(desk, &out[..n]) {
             return Turn {
                 state,
                 first,
+                counts,
                 next: Next::Stop,
             };
         }
-        at += fed.used;
+        at = end;
     }
     let stage = state.stage;
     Turn {
         state,
         first,
+        counts,
         next: next_of(stage),
     }
 }
 
 // Reads once, and answers what came.
-fn take_turn(desk: Desk, state: State, first: First, buf: &mut [u8], out: &mut [u8]) -> Turn
+fn take_turn(
+    desk: Desk,
+    state: State,
+    first: First,
+    counts: Counts,
+    buf: &mut [u8],
+    out: &mut [u8],
+) -> Turn
     requires { ⌜ room Desk.Bench ≤ length (now out) ⌝ }
 {
     let got = libc::read(STDIN_FILENO, buf);
@@ -106,6 +130,7 @@ fn take_turn(desk: Desk, state: State, first: First, buf: &mut [u8], out: &mut [
         return Turn {
             state,
             first,
+            counts,
             next: Next::Stop,
         };
     }
@@ -114,12 +139,13 @@ fn take_turn(desk: Desk, state: State, first: First, buf: &mut [u8], out: &mut [
         return Turn {
             state,
             first,
+            counts,
             next: Next::Finish,
         };
     }
     let stage = state.stage;
     let kept = first_with(first, stage, &buf[..n]);
-    drain(desk, state, kept, &buf[..n], out)
+    drain(desk, state, kept, counts, &buf[..n], out)
 }
 
 // Whether the input that has ended had a right header; if not, that is said.
@@ -138,16 +164,21 @@ fn had_header(desk: Desk, stage: Stage, first: First, code: u8) -> bool {
 }
 
 // What is still due at the end of the input. Whether all was well.
-fn finish(desk: Desk, state: State, first: First, out: &mut [u8]) -> bool
+fn finish(desk: Desk, state: State, first: First, counts: Counts, out: &mut [u8]) -> bool
     requires { ⌜ room Desk.Bench ≤ length (now out) ⌝ }
 {
     let stage = state.stage;
     let x = list::finish(state, out);
     let n = x.wrote;
+    let all = counts.after_end(desk, state, x.code);
     if !wrote(desk, &out[..n]) {
         return false;
     }
-    had_header(desk, stage, first, x.code)
+    if !had_header(desk, stage, first, x.code) {
+        return false;
+    }
+    all.say_sum(desk);
+    true
 }
 
 // A proved loop has to end, and nothing says that the input does: turns are counted down, from a number that no input uses up.
@@ -156,19 +187,22 @@ fn all(desk: Desk, buf: &mut [u8], out: &mut [u8]) -> bool
 {
     let mut state = list::start(desk);
     let mut first = nothing_yet();
+    let mut counts = nothing_said();
     let mut left = u64::MAX;
     while left > 0 {
         left -= 1;
-        let t = take_turn(desk, state, first, buf, out);
+        let t = take_turn(desk, state, first, counts, buf, out);
         let later = t.state;
         state = later;
         let kept = t.first;
         first = kept;
+        let so_far = t.counts;
+        counts = so_far;
         let next = t.next;
         match next {
             Next::Read => {}
             Next::Finish => {
-                return finish(desk, state, first, out);
+                return finish(desk, state, first, counts, out);
             }
             Next::WrongHeader => {
                 say_wrong(desk, first);

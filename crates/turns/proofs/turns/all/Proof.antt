@@ -1,21 +1,24 @@
 -- `turns::turns::all` is safe and ends: turns are counted down.
-use lib.ListN.{length}
-use mathlib.Core.Path.{_≡_}
 use borrow.Author.Needs.{needs}
+use mathlib.Core.Path.{_≡_}
+use lib.ListN.{length}
 use Rattle.turns.proofs.turns.all.Statement.{statement}
 use Rattle.turns.proofs.turns.all.Tie as tie
 
 abbrev Inv-loop : tie.InvT-loop
-Inv-loop desk buf₀ out₀ state₀ first₀ left₀ buf out state first left = (length buf ≡ length buf₀) × (length out ≡ length out₀)
+Inv-loop desk buf₀ out₀ state₀ first₀ counts₀ left₀ buf out state first counts left = (length buf ≡ length buf₀) × (length out ≡ length out₀)
 
 abbrev μ-loop : tie.MeasureT-loop
-μ-loop desk buf₀ out₀ state₀ first₀ left₀ buf out state first left = left
+μ-loop desk buf₀ out₀ state₀ first₀ counts₀ left₀ buf out state first counts left = left
 
 start-requires : tie.Need-start-requires Inv-loop μ-loop
 start-requires c κs = search needs
 
 nothing-yet-requires : tie.Need-nothing-yet-requires Inv-loop μ-loop
 nothing-yet-requires c κs = search needs
+
+nothing-said-requires : tie.Need-nothing-said-requires Inv-loop μ-loop
+nothing-said-requires c κs = search needs
 
 loop-holds : tie.Need-loop-holds Inv-loop μ-loop
 loop-holds c = search needs
@@ -94,6 +97,7 @@ all-spec =
     μ-loop
     start-requires
     nothing-yet-requires
+    nothing-said-requires
     loop-holds
     sub-left
     take-turn-requires

@@ -1,20 +1,37 @@
 -- `turns::turns::drain` is safe and ends: each turn uses a byte of the chunk.
+use borrow.Author.Needs.{needs}
+use mathlib.Core.Path.{_≡_, sym, ap, _∙_}
+use mathlib.Core.List.{List}
+use native.Mathlib.Omega.{arith}
+use Prim.Native.Nat.{ℕ, _+_, _-_, _≤_, _<_}
+use lib.ListN.{length, take, drop, length-drop}
+use lib.Seq.{length-take-le}
 use Rattle.list.proofs.Feeds.{fed-long, part-is}
 use Rattle.list.proofs.Whole.{goes-on, enough-room}
-use lib.Seq.{length-take-le}
-use lib.ListN.{length, take, drop, length-drop}
-use Prim.Native.Nat.{_+_, _-_, _≤_, _<_}
-use native.Mathlib.Omega.{arith}
-use mathlib.Core.Path.{_≡_, sym, ap, _∙_}
-use borrow.Author.Needs.{needs}
 use Rattle.turns.proofs.turns.drain.Statement.{statement}
 use Rattle.turns.proofs.turns.drain.Tie as tie
 
 abbrev Inv-loop : tie.InvT-loop
-Inv-loop desk first chunk out₀ state₀ at₀ out state at = (at ≤ length chunk) × (length out ≡ length out₀)
+Inv-loop desk first chunk out₀ state₀ counts₀ at₀ out state counts at = (at ≤ length chunk) × (length out ≡ length out₀)
 
 abbrev μ-loop : tie.MeasureT-loop
-μ-loop desk first chunk out₀ state₀ at₀ out state at = length chunk - at
+μ-loop desk first chunk out₀ state₀ counts₀ at₀ out state counts at = length chunk - at
+
+-- after a feeding: the head of the loop, and what is at hand there
+abbrev Head : Type 0
+Head = tie.At-loop Inv-loop μ-loop
+
+abbrev chunk : Head → List ℕ
+chunk c = c .before .before .before .args .chunk .now
+
+abbrev fed-part : Head → List ℕ
+fed-part c = take (length (chunk c) - c .loop .at) (drop (c .loop .at) (chunk c))
+
+abbrev Fed : Type 0
+Fed = tie.After-feed Inv-loop μ-loop
+
+abbrev head : Fed → Head
+head c = c .before .before .before .before
 
 loop-holds : tie.Need-loop-holds Inv-loop μ-loop
 loop-holds c = search needs
@@ -32,24 +49,46 @@ feed-requires : tie.Need-feed-requires Inv-loop μ-loop
 feed-requires c κs = search needs
 
 -- the part of the chunk that is fed
-part-long : (c : tie.After-feed Inv-loop μ-loop) → length (take (length (c .before .before .before .before .before .before .before .args .chunk .now) - c .before .before .before .before .loop .at) (drop (c .before .before .before .before .loop .at) (c .before .before .before .before .before .before .before .args .chunk .now))) ≡ length (c .before .before .before .before .before .before .before .args .chunk .now) - c .before .before .before .before .loop .at
-part-long c = ap length (part-is (c .before .before .before .before .before .before .before .args .chunk .now) (c .before .before .before .before .loop .at)) ∙ length-drop (c .before .before .before .before .loop .at) (c .before .before .before .before .before .before .before .args .chunk .now)
+part-long : (c : Head) → length (fed-part c) ≡ length (chunk c) - c .loop .at
+part-long c = ap length (part-is (chunk c) (c .loop .at)) ∙ length-drop (c .loop .at) (chunk c)
 
-used-within : (c : tie.After-feed Inv-loop μ-loop) → c .before .before .before .before .loop .at + c .feed .result .used ≤ length (c .before .before .before .before .before .before .before .args .chunk .now)
-used-within c = omega (arith, c .feed .ensures .within, part-long c, c .before .before .before .before .loop .inv .0)
+used-within : (c : Fed) → head c .loop .at + c .feed .result .used ≤ length (chunk (head c))
+used-within c = omega (arith, c .feed .ensures .within, part-long (head c), head c .loop .inv .0)
 
-used-some : (c : tie.After-feed Inv-loop μ-loop) → 0 < c .feed .result .used
+used-some : (c : Fed) → 0 < c .feed .result .used
 used-some c =
-    let chunk = c .before .before .before .before .before .before .before .args .chunk .now in
-    let at = c .before .before .before .before .loop .at in
-    goes-on (c .before .before .before .before .loop .state) (take (length chunk - at) (drop at chunk)) (c .before .before .before .before .loop .out) (c .feed .last .1 .1 .0) (c .feed .result) (c .feed .ensures)
-    (omega (arith, c .before .before .before .before .before .before .before .pre, c .before .before .before .before .loop .inv .1, enough-room (c .before .before .before .before .loop .state .stage))) (omega (arith, part-long c, c .before .before .before .loop-test .taken))
+    let h = head c in
+    goes-on (h .loop .state) (fed-part h) (h .loop .out) (c .feed .last .1 .1 .0) (c .feed .result) (c .feed .ensures)
+    (omega (arith, h .before .before .before .pre, h .loop .inv .1, enough-room (h .loop .state .stage))) (omega (arith, part-long h, c .before .before .before .loop-test .taken))
+
+-- what is written lies within the buffer
+wrote-within : (c : Fed) → c .feed .result .wrote ≤ length (c .feed .last .1 .1 .0)
+wrote-within c = omega (arith, c .feed .ensures .wrote, c .feed .ensures .fits, fed-long (c .feed .ensures))
+
+add-end : tie.Need-add-end Inv-loop μ-loop
+add-end c =
+    let f = c .before .before .before in
+    omega (arith, used-within f, head f .before .before .before)
+
+sub-after-feeding : tie.Need-sub-after-feeding Inv-loop μ-loop
+sub-after-feeding c = search needs
+
+part-after-feeding-start : tie.Need-part-after-feeding-start Inv-loop μ-loop
+part-after-feeding-start c = search needs
+
+part-after-feeding-end : tie.Need-part-after-feeding-end Inv-loop μ-loop
+part-after-feeding-end c = omega (arith, used-within (c .before .before .before .before .before))
+
+after-feeding-requires : tie.Need-after-feeding-requires Inv-loop μ-loop
+after-feeding-requires c κs = search needs
 
 slice-reshare-prefix-wrote : tie.Need-slice-reshare-prefix-wrote Inv-loop μ-loop
-slice-reshare-prefix-wrote c = omega (arith, c .before .before .before .feed .ensures .wrote, c .before .before .before .feed .ensures .fits, fed-long (c .before .before .before .feed .ensures))
+slice-reshare-prefix-wrote c = wrote-within (c .before .before .before .before .before .before .before)
 
 slice-aggregate-wrote : tie.Need-slice-aggregate-wrote Inv-loop μ-loop
-slice-aggregate-wrote c = sym (length-take-le (c .before .before .before .before .feed .result .wrote) (c .before .before .before .before .feed .last .1 .1 .0) (omega (arith, c .before .before .before .before .feed .ensures .wrote, c .before .before .before .before .feed .ensures .fits, fed-long (c .before .before .before .before .feed .ensures))))
+slice-aggregate-wrote c =
+    let f = c .before .before .before .before .before .before .before .before in
+    sym (length-take-le (f .feed .result .wrote) (f .feed .last .1 .1 .0) (wrote-within f))
 
 wrote-requires : tie.Need-wrote-requires Inv-loop μ-loop
 wrote-requires c κs = search needs
@@ -60,14 +99,15 @@ same-length c = search needs
 returns : tie.Need-returns Inv-loop μ-loop
 returns c = search needs
 
-add-at : tie.Need-add-at Inv-loop μ-loop
-add-at c = omega (arith, used-within (c .before .before .before .before .before .before .before), c .before .before .before .before .before .before .before .before .before .before .before .before .before .before)
-
 loop-less : tie.Need-loop-less Inv-loop μ-loop
-loop-less c = omega (arith, used-some (c .before .before .before .before .before .before .before), used-within (c .before .before .before .before .before .before .before), c .before .before .before .before .before .before .before .before .before .before .loop-test .taken)
+loop-less c =
+    let f = c .before .before .before .before .before .before .before .before .before .before in
+    omega (arith, used-some f, used-within f, f .before .before .before .loop-test .taken)
 
 loop-again : tie.Need-loop-again Inv-loop μ-loop
-loop-again c = (omega (arith, used-within (c .before .before .before .before .before .before .before)), fed-long (c .before .before .before .before .before .before .before .feed .ensures) ∙ c .before .before .before .before .before .before .before .before .before .before .before .loop .inv .1)
+loop-again c =
+    let f = c .before .before .before .before .before .before .before .before .before .before in
+    (used-within f, fed-long (f .feed .ensures) ∙ head f .loop .inv .1)
 
 next-of-requires : tie.Need-next-of-requires Inv-loop μ-loop
 next-of-requires c κs = search needs
@@ -89,12 +129,16 @@ drain-spec =
     part-feed-start
     part-feed-end
     feed-requires
+    add-end
+    sub-after-feeding
+    part-after-feeding-start
+    part-after-feeding-end
+    after-feeding-requires
     slice-reshare-prefix-wrote
     slice-aggregate-wrote
     wrote-requires
     same-length
     returns
-    add-at
     loop-less
     loop-again
     next-of-requires
