@@ -30,6 +30,15 @@ pub struct Turn {
     pub next: Next,
 }
 
+fn after(state: State, first: First, counts: Counts, next: Next) -> Turn {
+    Turn {
+        state,
+        first,
+        counts,
+        next,
+    }
+}
+
 // Says which of its two streams failed a program, and why.
 fn output_failed(desk: Desk) {
     match desk {
@@ -95,22 +104,12 @@ fn drain(
         counts = counts.after_feeding(desk, state, &chunk[at..end], stage, tally);
         state = later;
         if !wrote(desk, &out[..n]) {
-            return Turn {
-                state,
-                first,
-                counts,
-                next: Next::Stop,
-            };
+            return after(state, first, counts, Next::Stop);
         }
         at = end;
     }
     let stage = state.stage;
-    Turn {
-        state,
-        first,
-        counts,
-        next: next_of(stage),
-    }
+    after(state, first, counts, next_of(stage))
 }
 
 // Reads once, and answers what came.
@@ -127,21 +126,11 @@ fn take_turn(
     let got = libc::read(STDIN_FILENO, buf);
     if got < 0 {
         input_failed(desk);
-        return Turn {
-            state,
-            first,
-            counts,
-            next: Next::Stop,
-        };
+        return after(state, first, counts, Next::Stop);
     }
     let n = io::count(got, buf);
     if n == 0 {
-        return Turn {
-            state,
-            first,
-            counts,
-            next: Next::Finish,
-        };
+        return after(state, first, counts, Next::Finish);
     }
     let stage = state.stage;
     let kept = first_with(first, stage, &buf[..n]);

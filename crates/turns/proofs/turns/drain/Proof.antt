@@ -93,8 +93,13 @@ slice-aggregate-wrote c =
 wrote-requires : tie.Need-wrote-requires Inv-loop μ-loop
 wrote-requires c κs = search needs
 
+after-requires : tie.Need-after-requires Inv-loop μ-loop
+after-requires c κs = search needs
+
 same-length : tie.Need-same-length Inv-loop μ-loop
-same-length c = search needs
+same-length c =
+    let f = c .before .before .before .before .before .before .before .before .before .before .before in
+    fed-long (f .feed .ensures) ∙ head f .loop .inv .1
 
 returns : tie.Need-returns Inv-loop μ-loop
 returns c = search needs
@@ -111,6 +116,9 @@ loop-again c =
 
 next-of-requires : tie.Need-next-of-requires Inv-loop μ-loop
 next-of-requires c κs = search needs
+
+after-requires-2 : tie.Need-after-requires-2 Inv-loop μ-loop
+after-requires-2 c κs = search needs
 
 same-length-2 : tie.Need-same-length-2 Inv-loop μ-loop
 same-length-2 c = search needs
@@ -137,10 +145,12 @@ drain-spec =
     slice-reshare-prefix-wrote
     slice-aggregate-wrote
     wrote-requires
+    after-requires
     same-length
     returns
     loop-less
     loop-again
     next-of-requires
+    after-requires-2
     same-length-2
     returns-2)
