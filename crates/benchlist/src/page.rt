@@ -148,7 +148,8 @@ fn people_part(fd: i32) -> bool {
 // Whether all of it was written.
 pub fn print(fd: i32) -> bool {
     usage_part(fd)
-        & list_part(fd)
+        & record_part(fd)
+        & other_part(fd)
         & field_part(fd)
         & order_part(fd)
         & code_part(fd)
