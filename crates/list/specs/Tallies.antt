@@ -1,4 +1,4 @@
--- How many lines were answered, and how.
+-- How many lines ended, and how they were answered.
 use mathlib.Core.Bool.{Bool, not}
 use mathlib.Core.List.{List, [], _∷_}
 use Prim.Native.Nat.{ℕ, _+_, _^_, _≤_, _<_}
@@ -9,7 +9,7 @@ use Rattle.quantity.specs.Refusals.{numberOf}
 use Rattle.quantity.specs.declared.refusal.Refusal.the-variants.{IllFormed}
 use Rattle.list.specs.declared.tally.Tally.{Tally}
 
--- A line is refused where the number given to it is not 0, and faulty where it is that of an ill-formed line.
+-- A line is refused where the number given to it is not 0, and faulty where it is that of a line that is no row, or no header where one is due.
 abbrev pub isRefused : ℕ → Bool
 isRefused number = not (eqb number 0)
 
@@ -24,7 +24,7 @@ abbrev pub howMany : (ℕ → Bool) → List ℕ → ℕ
 howMany such [] = 0
 howMany such (number ∷ numbers) = oneIf (such number) + howMany such numbers
 
--- The tally of lines to which these numbers were given.
+-- The tally of lines to which these numbers were given. After a wrong header every line has 0, and counts.
 abbrev pub tallyOf : List ℕ → Tally
 tallyOf numbers = record { lines = length numbers; refused = howMany isRefused numbers; faulty = howMany isFaulty numbers }
 

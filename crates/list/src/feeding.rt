@@ -17,8 +17,7 @@ use crate::tally::no_lines;
 use line::LineAnswer;
 use lines::MOST_HELD;
 
-// What a feeding did: the new state, how many bytes of the chunk it used and how many of the buffer it wrote, the tally of the lines that it answered, and the
-// code: 11 where it left bytes of the chunk because the buffer was too short for a line's answer, else 0.
+// What a feeding did: the new state, how many bytes of the chunk it used and how many of the buffer it wrote, the tally of the lines that ended, and the code: 11 where it left bytes of the chunk because the buffer was too short for a line's answer, else 0.
 pub struct Fed {
     pub state: State,
     pub used: usize,
@@ -80,14 +79,14 @@ fn feed_on(held: [u8; MOST_HELD], first: Place, chunk: &[u8], out: &mut [u8]) ->
             stage: next,
             used: end + 1,
             wrote: at + x.answer.wrote,
-            tally: tally.and(x.answer.code),
+            tally: tally.with_line(x.answer.code),
         };
     }
     hold(held, place, b"", 0)
 }
 
-// How many bytes are held, whatever the count says.
-fn held_count(count: usize) -> usize
+// How many bytes of a partial line are held, whatever the count says.
+pub fn held_count(count: usize) -> usize
     ensures { λ r. ⌜ r ≡ (if leb count mostHeld then count else mostHeld) ⌝ }
 {
     if count <= MOST_HELD {
@@ -130,7 +129,7 @@ fn feed_held(state: State, begun: usize, chunk: &[u8], out: &mut [u8]) -> Fed
         stage: next,
         used: end + 1,
         wrote: x.answer.wrote,
-        tally: no_lines().and(x.answer.code),
+        tally: no_lines().with_line(x.answer.code),
     };
     feed_on(held, place, chunk, out)
 }

@@ -9,6 +9,7 @@ mod tally;
 pub use feeding::Fed;
 pub use feeding::feed;
 pub use feeding::finish;
+pub use feeding::held_count;
 pub use kinds::Desk;
 pub use kinds::Kind;
 pub use state::Stage;

@@ -1,10 +1,11 @@
-// How many lines of a list were answered, and how.
+// How many lines of a list ended, and how they were answered.
 ghost use mathlib.Core.Path.{_≡_};
 ghost use mathlib.Core.List.{[]};
 ghost use Rattle.list.specs.Tallies.{tallyOf, withLine, Countable};
 use quantity::Refusal;
 
-// All lines, those of them that were refused, and those of these that are faulty, which means ill-formed. A header is a line too.
+// All lines that ended, those of them that were refused, and those of these that are faulty: no rows, or no header. A header is a line too. After a wrong header
+// nothing is answered any more, and each line counts with the number 0.
 pub struct Tally {
     pub lines: usize,
     pub refused: usize,
@@ -23,7 +24,7 @@ pub fn no_lines() -> Tally
 
 impl Tally {
     // With one line more, to which this number was given.
-    pub fn and(self, number: u8) -> Tally
+    pub(crate) fn with_line(self, number: u8) -> Tally
         requires { ⌜ Countable self ⌝ }
         ensures { λ r. ⌜ r ≡ withLine self number ⌝ }
     {

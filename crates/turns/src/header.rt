@@ -101,7 +101,9 @@ fn say_reason(first: First, length: usize) -> bool {
         return say(b"  it has blanks: write the header without them\n");
     }
     if ends_by_feed_alone(first, length) {
-        return say(b"  its lines end with LF alone, and CRLF is wanted: sed 's/$/\\r/' LIST\n");
+        return say(
+            b"  its lines end with LF alone, and CRLF is wanted: sed 's/\\r*$/\\r/;$a\\' LIST\n",
+        );
     }
     true
 }

@@ -1,9 +1,10 @@
-// What the programs over lists share: what they were asked, the turns from standard input to standard output, and what is said to people: of a wrong header, of rows, and how many there were.
+// What the programs over lists share: what they were asked, the turns from standard input to standard output, and what is said to people: of a wrong header, of
+// rows, and how many there were.
 mod asked;
-mod faults;
 mod first;
 mod header;
 mod people;
+mod remarks;
 mod rows;
 mod status;
 mod turns;

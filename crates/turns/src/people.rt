@@ -18,7 +18,7 @@ pub fn say_name(desk: Desk) -> bool {
     }
 }
 
-// Whether somebody reads it as it comes.
-pub fn is_read() -> bool {
+// Whether it goes to a terminal, where somebody reads it as it comes.
+pub fn on_terminal() -> bool {
     libc::isatty(STDERR_FILENO) == 1
 }

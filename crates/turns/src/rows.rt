@@ -1,9 +1,10 @@
-// What is said of the rows of a list besides their answers. Where a chunk has a row of which something may be said, its lines are gone through once more.
+// What is said of the rows of a list besides their answers. Where a chunk has a row of which something may be said, its lines are gone through once more, after
+// their answers are written.
 ghost use Prim.Native.Nat.{_≤_};
 ghost use Rattle.lines.specs.Held.{mostHeld};
-use crate::faults::Fault;
-use crate::faults::fault_in;
-use crate::people::is_read;
+use crate::people::on_terminal;
+use crate::remarks::Remark;
+use crate::remarks::remark_on;
 use crate::words::say_counts;
 use crate::words::say_more;
 use crate::words::say_of_line;
@@ -32,23 +33,11 @@ pub fn nothing_said() -> Counts {
     }
 }
 
-fn is_nothing(fault: Fault) -> bool {
-    match fault {
-        Fault::Joined => false,
-        Fault::InCell(_) => false,
-        Fault::InCoefficient => false,
-        Fault::Nothing => true,
+fn is_nothing(remark: Remark) -> bool {
+    match remark {
+        Remark::Nothing => true,
+        _ => false,
     }
-}
-
-// How many bytes of a partial line are held, whatever the count says.
-fn held_count(count: usize) -> usize
-    ensures { λ r. ⌜ r ≤ mostHeld ⌝ }
-{
-    if count <= MOST_HELD {
-        return count;
-    }
-    MOST_HELD
 }
 
 fn last_held(held: [u8; MOST_HELD], count: usize) -> u8
@@ -96,14 +85,14 @@ impl Counts {
         if said > MOST_SAID {
             return counted;
         }
-        let fault = fault_in(kind, line);
-        if is_nothing(fault) {
+        let remark = remark_on(kind, line);
+        if is_nothing(remark) {
             return counted;
         }
         if said == MOST_SAID {
-            say_more(desk);
+            say_more(desk, MOST_SAID);
         } else {
-            say_of_line(desk, counted.lines, fault);
+            say_of_line(desk, counted.lines, remark);
         }
         Counts {
             lines: counted.lines,
@@ -129,9 +118,6 @@ impl Counts {
             if end >= part.len() - from {
                 return counts;
             }
-            if end == 0 {
-                return counts;
-            }
             counts = counts.say_next(desk, kind, &part[from..from + (end - 1)]);
             from += end + 1;
         }
@@ -142,12 +128,13 @@ impl Counts {
     fn say_lines(self, desk: Desk, kind: Kind, state: State, part: &[u8]) -> Counts {
         let stage = state.stage;
         let mut held = state.held;
-        let begun = held_count(state.count);
+        let begun = list::held_count(state.count);
         let end = lines::line_end(last_held(held, begun), part);
         if end >= part.len() {
             return self;
         }
         let count = lines::append(&mut held, begun, &part[..end]);
+        // A line that has ended has a CR, so this is never so.
         if count == 0 {
             return self;
         }
@@ -155,11 +142,11 @@ impl Counts {
         first.say_whole(desk, kind, &part[end + 1..])
     }
 
-    // With the lines that a feeding answered, of which it says what is to be said: `begun` is the state before, `part` the bytes that were used.
+    // With the lines that a feeding answered, of which it says what is to be said: `before` is the state before it, `part` the bytes that it used.
     pub fn after_feeding(
         self,
         desk: Desk,
-        begun: State,
+        before: State,
         part: &[u8],
         stage: Stage,
         tally: Tally,
@@ -168,10 +155,13 @@ impl Counts {
         match stage {
             Stage::Header(_) => counted,
             Stage::Rows(kind) => {
+                if self.said > MOST_SAID {
+                    return counted;
+                }
                 if !is_due(kind, tally) {
                     return counted;
                 }
-                let told = self.say_lines(desk, kind, begun, part);
+                let told = self.say_lines(desk, kind, before, part);
                 Counts {
                     lines: counted.lines,
                     refused: counted.refused,
@@ -186,7 +176,7 @@ impl Counts {
     pub fn after_end(self, desk: Desk, state: State, code: u8) -> Counts {
         let held = state.held;
         let stage = state.stage;
-        let count = held_count(state.count);
+        let count = list::held_count(state.count);
         if count == 0 {
             return self;
         }
@@ -205,7 +195,7 @@ impl Counts {
 
     // Says how many lines were answered and refused, where somebody reads it as it comes. The header is none of them.
     pub fn say_sum(self, desk: Desk) {
-        if is_read() {
+        if on_terminal() {
             let answered = std::num::wrapping_sub_u64(
                 self.lines,
                 std::num::wrapping_add_u64(self.refused, 1),

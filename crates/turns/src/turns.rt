@@ -80,7 +80,7 @@ fn first_with(first: First, stage: Stage, chunk: &[u8]) -> First {
     }
 }
 
-// Feeds all of a chunk, and writes what is answered.
+// Feeds all of a chunk, and writes what is answered before anything is said of it.
 fn drain(
     desk: Desk,
     begun: State,
@@ -99,13 +99,13 @@ fn drain(
         let n = fed.wrote;
         let end = at + fed.used;
         let later = fed.state;
+        if !wrote(desk, &out[..n]) {
+            return after(later, first, counts, Next::Stop);
+        }
         let stage = later.stage;
         let tally = fed.tally;
         counts = counts.after_feeding(desk, state, &chunk[at..end], stage, tally);
         state = later;
-        if !wrote(desk, &out[..n]) {
-            return after(state, first, counts, Next::Stop);
-        }
         at = end;
     }
     let stage = state.stage;
@@ -159,13 +159,13 @@ fn finish(desk: Desk, state: State, first: First, counts: Counts, out: &mut [u8]
     let stage = state.stage;
     let x = list::finish(state, out);
     let n = x.wrote;
-    let all = counts.after_end(desk, state, x.code);
     if !wrote(desk, &out[..n]) {
         return false;
     }
     if !had_header(desk, stage, first, x.code) {
         return false;
     }
+    let all = counts.after_end(desk, state, x.code);
     all.say_sum(desk);
     true
 }

@@ -166,12 +166,12 @@ add-t13 c =
 no-lines-requires-3 : tie.Need-no-lines-requires-3
 no-lines-requires-3 c κs = search needs
 
-and-requires : tie.Need-and-requires
-and-requires c κs = rw (c .no-lines3 .ensures) (record { lines = omega arith; refused = omega arith; faulty = omega arith })
+with-line-requires : tie.Need-with-line-requires
+with-line-requires c κs = rw (c .no-lines3 .ensures) (record { lines = omega arith; refused = omega arith; faulty = omega arith })
 
 -- the tally of that one line
-tally-is : (c : tie.After-and) → c .and .result ≡ withLine (tallyOf []) (replied (c .before .before .before) .reply-to .result .placing .answer .code)
-tally-is c = c .and .ensures ∙ rw (c .before .no-lines3 .ensures)
+tally-is : (c : tie.After-with-line) → c .with-line .result ≡ withLine (tallyOf []) (replied (c .before .before .before) .reply-to .result .placing .answer .code)
+tally-is c = c .with-line .ensures ∙ rw (c .before .no-lines3 .ensures)
 
 feed-on-requires : tie.Need-feed-on-requires
 feed-on-requires c κs =
@@ -184,13 +184,13 @@ same-length-2 c = search needs
 
 returns-3 : tie.Need-returns-3
 returns-3 c =
-    let and = c .before .before .before .before in
-    let e = and .before .before in
+    let counted = c .before .before .before .before in
+    let e = counted .before .before in
     let r = replied (e .before) in
     let a = added r in
     let f = found a in
     c .before .before .feed-on .ensures (state f) (out f)
-    (rw (tally-is and) (held-at (state f) (chunk f) (out f) (end f) (held a) (count a) (ends f) (line-is a) (more (ended r)) (left r) (r .reply-to .result) (written e)))
+    (rw (tally-is counted) (held-at (state f) (chunk f) (out f) (end f) (held a) (count a) (ends f) (line-is a) (more (ended r)) (left r) (r .reply-to .result) (written e)))
 
 pub feed-held-spec : {M : Type 1} → statement M
 feed-held-spec =
@@ -213,7 +213,7 @@ feed-held-spec =
     returns-2
     add-t13
     no-lines-requires-3
-    and-requires
+    with-line-requires
     feed-on-requires
     same-length-2
     returns-3)

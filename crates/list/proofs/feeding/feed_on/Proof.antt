@@ -232,8 +232,8 @@ add-t18 c =
     let h = head (found (replied (c .before .before .before))) in
     omega (arith, w .wrote, w .fits, length-drop (place h .wrote) (h .loop .out), h .loop .inv .standing .wrote, h .loop .inv .long, entry h)
 
-and-requires : tie.Need-and-requires Inv-loop μ-loop
-and-requires c κs =
+with-line-requires : tie.Need-with-line-requires Inv-loop μ-loop
+with-line-requires c κs =
     let h = head (found (replied (c .before .before .before))) in
     let s = h .loop .inv .standing in
     record { lines = omega (arith, s .lines, s .used, entry h); refused = s .refused; faulty = s .faulty }
@@ -253,7 +253,7 @@ loop-again c =
       long = buffer-long r;
       at = λ st before a. at-more (h .loop .inv .at st before a) (ends f) (more (r .before .before .before)) (buffer r) (left r) x w (buffer-is r);
     } in
-    rw (c .and .ensures) on
+    rw (c .with-line .ensures) on
 
 -- ---- all of the chunk is used
 slice-aggregate-hold : tie.Need-slice-aggregate-hold Inv-loop μ-loop
@@ -304,7 +304,7 @@ feed-on-spec =
     returns-2
     add-t29
     add-t18
-    and-requires
+    with-line-requires
     loop-less
     loop-again
     slice-aggregate-hold

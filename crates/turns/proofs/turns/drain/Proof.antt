@@ -70,24 +70,12 @@ add-end c =
     let f = c .before .before .before in
     omega (arith, used-within f, head f .before .before .before)
 
-sub-after-feeding : tie.Need-sub-after-feeding Inv-loop μ-loop
-sub-after-feeding c = search needs
-
-part-after-feeding-start : tie.Need-part-after-feeding-start Inv-loop μ-loop
-part-after-feeding-start c = search needs
-
-part-after-feeding-end : tie.Need-part-after-feeding-end Inv-loop μ-loop
-part-after-feeding-end c = omega (arith, used-within (c .before .before .before .before .before))
-
-after-feeding-requires : tie.Need-after-feeding-requires Inv-loop μ-loop
-after-feeding-requires c κs = search needs
-
 slice-reshare-prefix-wrote : tie.Need-slice-reshare-prefix-wrote Inv-loop μ-loop
-slice-reshare-prefix-wrote c = wrote-within (c .before .before .before .before .before .before .before)
+slice-reshare-prefix-wrote c = wrote-within (c .before .before .before .before)
 
 slice-aggregate-wrote : tie.Need-slice-aggregate-wrote Inv-loop μ-loop
 slice-aggregate-wrote c =
-    let f = c .before .before .before .before .before .before .before .before in
+    let f = c .before .before .before .before .before in
     sym (length-take-le (f .feed .result .wrote) (f .feed .last .1 .1 .0) (wrote-within f))
 
 wrote-requires : tie.Need-wrote-requires Inv-loop μ-loop
@@ -98,11 +86,23 @@ after-requires c κs = search needs
 
 same-length : tie.Need-same-length Inv-loop μ-loop
 same-length c =
-    let f = c .before .before .before .before .before .before .before .before .before .before .before in
+    let f = c .before .before .before .before .before .before .before .before in
     fed-long (f .feed .ensures) ∙ head f .loop .inv .1
 
 returns : tie.Need-returns Inv-loop μ-loop
 returns c = search needs
+
+sub-after-feeding : tie.Need-sub-after-feeding Inv-loop μ-loop
+sub-after-feeding c = search needs
+
+part-after-feeding-start : tie.Need-part-after-feeding-start Inv-loop μ-loop
+part-after-feeding-start c = search needs
+
+part-after-feeding-end : tie.Need-part-after-feeding-end Inv-loop μ-loop
+part-after-feeding-end c = omega (arith, used-within (c .before .before .before .before .before .before .before .before))
+
+after-feeding-requires : tie.Need-after-feeding-requires Inv-loop μ-loop
+after-feeding-requires c κs = search needs
 
 loop-less : tie.Need-loop-less Inv-loop μ-loop
 loop-less c =
@@ -138,16 +138,16 @@ drain-spec =
     part-feed-end
     feed-requires
     add-end
-    sub-after-feeding
-    part-after-feeding-start
-    part-after-feeding-end
-    after-feeding-requires
     slice-reshare-prefix-wrote
     slice-aggregate-wrote
     wrote-requires
     after-requires
     same-length
     returns
+    sub-after-feeding
+    part-after-feeding-start
+    part-after-feeding-end
+    after-feeding-requires
     loop-less
     loop-again
     next-of-requires

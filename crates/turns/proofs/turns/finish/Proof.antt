@@ -17,15 +17,12 @@ wrote-within c =
 finish-requires : tie.Need-finish-requires
 finish-requires c κs = search needs
 
-after-end-requires : tie.Need-after-end-requires
-after-end-requires c κs = search needs
-
 slice-reshare-prefix-wrote : tie.Need-slice-reshare-prefix-wrote
-slice-reshare-prefix-wrote c = wrote-within (c .before .before .before)
+slice-reshare-prefix-wrote c = wrote-within (c .before .before)
 
 slice-aggregate-wrote : tie.Need-slice-aggregate-wrote
 slice-aggregate-wrote c =
-    let x = c .before .before .before .before in
+    let x = c .before .before .before in
     sym (length-take-le (x .finish .result .wrote) (x .finish .last .1 .0) (wrote-within x))
 
 wrote-requires : tie.Need-wrote-requires
@@ -46,6 +43,9 @@ same-length-2 c = search needs
 returns-2 : tie.Need-returns-2
 returns-2 c = search needs
 
+after-end-requires : tie.Need-after-end-requires
+after-end-requires c κs = search needs
+
 say-sum-requires : tie.Need-say-sum-requires
 say-sum-requires c κs = search needs
 
@@ -60,7 +60,6 @@ finish-spec =
     tie.close
     (tie.spec
     finish-requires
-    after-end-requires
     slice-reshare-prefix-wrote
     slice-aggregate-wrote
     wrote-requires
@@ -69,6 +68,7 @@ finish-spec =
     had-header-requires
     same-length-2
     returns-2
+    after-end-requires
     say-sum-requires
     same-length-3
     returns-3)

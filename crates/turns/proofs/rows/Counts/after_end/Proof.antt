@@ -6,6 +6,7 @@ use Prim.Native.Nat.{_≤_}
 use lib.ListN.{length}
 use lib.Seq.{length-take-le}
 use Rattle.lines.specs.Held.{mostHeld}
+use Rattle.list.proofs.Feeds.{held-is}
 use Rattle.turns.proofs.rows.Counts.after_end.Statement.{statement}
 use Rattle.turns.proofs.rows.Counts.after_end.Tie as tie
 
@@ -28,7 +29,8 @@ enum-known-stage c = search needs
 within : (c : tie.After-held-count) → c .held-count .result ≤ length (c .before .before .args .state .held)
 within c =
     let long : length (c .before .before .args .state .held) ≡ mostHeld = search needs in
-    omega (arith, c .held-count .ensures)
+    let few = held-is (c .before .before .args .state .held) (c .before .before .args .state .count) (c .held-count .result) long (c .held-count .ensures) .0 in
+    omega (arith, few)
 
 array-share-prefix-held : tie.Need-array-share-prefix-held
 array-share-prefix-held c = within (c .before .before .before .before)

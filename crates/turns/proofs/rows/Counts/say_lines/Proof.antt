@@ -7,14 +7,22 @@ use lib.ListN.{length, take}
 use lib.Seq.{length-take-le}
 use Rattle.lines.specs.Held.{mostHeld}
 use Rattle.lines.proofs.Appending.{appended-few}
+use Rattle.list.proofs.Feeds.{held-is}
 use Rattle.turns.proofs.rows.Counts.say_lines.Statement.{statement}
 use Rattle.turns.proofs.rows.Counts.say_lines.Tie as tie
+
+-- no more is held than the array has
+few : (c : tie.After-held-count) → c .held-count .result ≤ mostHeld
+few c =
+    let state = c .before .before .before .args .state in
+    let long : length (state .held) ≡ mostHeld = search needs in
+    held-is (state .held) (state .count) (c .held-count .result) long (c .held-count .ensures) .0
 
 held-count-requires : tie.Need-held-count-requires
 held-count-requires c κs = search needs
 
 last-held-requires : tie.Need-last-held-requires
-last-held-requires c κs = search needs
+last-held-requires c κs = few c
 
 line-end-requires : tie.Need-line-end-requires
 line-end-requires c κs = search needs
@@ -32,7 +40,10 @@ slice-aggregate-append-2 c =
     sym (length-take-le (at-end .line-end .result) part (omega (arith, c .before .before .if1 .left)))
 
 append-requires : tie.Need-append-requires
-append-requires c κs = search needs
+append-requires c κs =
+    let at-count = c .before .before .before .before .before in
+    let long : length (at-count .before .before .before .args .state .held) ≡ mostHeld = search needs in
+    (long, few at-count)
 
 returns-2 : tie.Need-returns-2
 returns-2 c = search needs

@@ -1,4 +1,4 @@
--- `list::tally::Tally::and` meets its contract, by the number that was given.
+-- `list::tally::Tally::with_line` meets its contract, by the number that was given.
 use mathlib.Core.Path.{_≡_, sym, _∙_}
 use native.Mathlib.Nat.{add-zero}
 use Prim.Native.Nat.{ℕ, _+_}
@@ -8,8 +8,8 @@ use Rattle.quantity.specs.Refusals.{numberOf}
 use Rattle.quantity.specs.declared.refusal.Refusal.the-variants.{IllFormed}
 use Rattle.list.specs.declared.tally.Tally.{Tally}
 use Rattle.list.specs.Tallies.{withLine}
-use Rattle.list.proofs.tally.Tally.and.Statement.{statement}
-use Rattle.list.proofs.tally.Tally.and.Tie as tie
+use Rattle.list.proofs.tally.Tally.with_line.Statement.{statement}
+use Rattle.list.proofs.tally.Tally.with_line.Tie as tie
 
 answered : (t : Tally) (n : ℕ) → n ≡ 0 → record { lines = t .lines + 1; refused = t .refused; faulty = t .faulty } ≡ withLine t n
 answered t n e = rw (e, add-zero (t .refused), add-zero (t .faulty))
@@ -45,5 +45,5 @@ returns-3 c =
     let at-start = c .before .before .before .before .before in
     refused (at-start .args .self) (at-start .args .number) (c .before .before .before .if1 .left) (λ e. c .if2 .left (e ∙ sym (c .before .number .ensures)))
 
-pub and-spec : {M : Type 1} → statement M
-and-spec = tie.close (tie.spec add-lines returns add-refused number-requires add-t8 returns-2 returns-3)
+pub with-line-spec : {M : Type 1} → statement M
+with-line-spec = tie.close (tie.spec add-lines returns add-refused number-requires add-t8 returns-2 returns-3)

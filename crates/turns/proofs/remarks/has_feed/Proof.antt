@@ -1,9 +1,9 @@
--- `turns::faults::has_feed` is safe and ends.
+-- `turns::remarks::has_feed` is safe and ends.
 use Prim.Native.Nat.{_-_, _≤_}
 use lib.ListN.{length}
 use borrow.Author.Needs.{needs}
-use Rattle.turns.proofs.faults.has_feed.Statement.{statement}
-use Rattle.turns.proofs.faults.has_feed.Tie as tie
+use Rattle.turns.proofs.remarks.has_feed.Statement.{statement}
+use Rattle.turns.proofs.remarks.has_feed.Tie as tie
 
 abbrev Inv-loop : tie.InvT-loop
 Inv-loop line i₀ i = i ≤ length line
