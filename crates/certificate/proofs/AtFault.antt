@@ -4,6 +4,8 @@ use mathlib.Core.Bool.{Bool, true, false, true≢false, false≢true, _&&_, _||_
 use mathlib.Core.List.{List, [], _∷_}
 use mathlib.Core.Option.{Option, none, some}
 use Prim.Native.Nat.{ℕ}
+use native.Mathlib.Omega.{arith}
+use borrow.Author.Tests.{eqb-true}
 use lib.Dec.{eqb}
 use Rattle.whole.specs.Any.{any}
 use Rattle.whole.specs.Choice.{if_then_else_}
@@ -23,9 +25,9 @@ use Rattle.certificate.specs.declared.fault.FaultyCell.the-variants.{At,
 use Rattle.certificate.specs.Certificate.{LawAndPlaces, noPlaces}
 use Rattle.certificate.specs.Record.{ratio, measured, isAbove, ratioAbove, isMissing, cellMissing, purityCellMissing, impure, cellDeviates, deviates, fitted, recordOf}
 use Rattle.certificate.specs.Resistances.{cellOutside, outside, ratiosOf, resistancesOf}
-use Rattle.certificate.specs.AtFault.{first, breaksPurity, atFault, atFaultBy, ofNamed, cellAtFault, cellAtFaultBy, statedCell}
-use Rattle.certificate.specs.Promised.{among, FaultFound, NoneAtFault, FaultFoundBy, NoneAtFaultBy}
-use Rattle.certificate.proofs.Firsts.{first-found}
+use Rattle.certificate.specs.AtFault.{breaksPurity, cellFor, atFault, cellForBy, atFaultBy, ofNamed, cellAtFault, cellAtFaultBy, statedCell}
+use Rattle.certificate.specs.Promised.{among, FaultFound, NoneAtFault, FaultFoundBy, NoneAtFaultBy, CoefficientAtFault, CoefficientAtFaultBy}
+use Rattle.certificate.proofs.Firsts.{first-found, none-holds}
 
 -- ---- purity not met, where gallium or mercury was measured
 one-breaks : (ga hg met silver enough : Bool) → not (ga || hg) ≡ false → not (met && (not silver || enough)) ≡ true → (not met && hg || (not met && ga || (silver && not enough || false))) ≡ true
@@ -41,72 +43,102 @@ unfolding purityCellMissing impure
 some-breaks s ratios =
     one-breaks (measured ratios Ga) (measured ratios Hg) (byGalliumOrMercury (ratio ratios Hg) (ratio ratios Ga)) (toSilver (carried s .form)) (bySilver (ratio ratios Ag))
 
+-- ---- of numbers
+-- what is so of each number of a list is so of one among them
+abbrev OfEach : (ℕ → Type 0) → List ℕ → Type 0
+OfEach P [] = Unit {0}
+OfEach P (n ∷ ns) = P n × OfEach P ns
+
+of-among : (P : ℕ → Type 0) (ns : List ℕ) → OfEach P ns → (n : ℕ) → among ns n ≡ true → P n
+of-among P [] each n e = absurd (false≢true e)
+of-among P (m ∷ ns) each n e = by (eqb n m) refl (of-among P ns (each .1) n) e
+  where
+    by : (t : Bool) → eqb n m ≡ t → (among ns n ≡ true → P n) → (t || among ns n) ≡ true → P n
+    by true is later e = rw (eqb-true n m is) (each .0)
+    by false is later e = later e
+
+-- and what is so of the number of each test, where it holds and none before it does, and of 0, where none holds, is so of the number given
+abbrev OfTests : (ℕ → Type 0) → List Test → Type 0
+OfTests P [] = P 0
+OfTests P ((holds gives n) ∷ tests) = (holds ≡ true → P n) × (holds ≡ false → OfTests P tests)
+
+of-given : (P : ℕ → Type 0) (tests : List Test) → OfTests P tests → P (numberGiven tests)
+of-given P [] each = each
+of-given P ((holds gives n) ∷ tests) each = by holds refl (of-given P tests)
+  where
+    by : (t : Bool) → holds ≡ t → (OfTests P tests → P (numberGiven tests)) → P (if t then n else numberGiven tests)
+    by true is later = each .0 is
+    by false is later = later (each .1 is)
+
 -- ---- of a known subrange
 module _ (s : Subrange) (ratios : Record) where
-  -- the number given and the cell at fault, by what each test says
-  abbrev number : (above missing purityMissing impurity deviating far : Bool) → ℕ
-  number above missing purityMissing impurity deviating far =
-      numberGiven (above gives 2 ∷ missing gives 4 ∷ purityMissing gives 5 ∷ impurity gives 6 ∷ (deviating || far) gives 7 ∷ [])
-
-  abbrev fault : (above missing purityMissing impurity deviating : Bool) → Option Cell
-  fault above missing purityMissing impurity deviating =
-      if above then first (isAbove ratios) allCells
-      else if missing then first (isMissing ratios) (cells s)
-      else if purityMissing then none
-      else if impurity then first (breaksPurity s ratios) allCells
-      else if deviating then first (cellDeviates ratios) allCells
-      else none
-
   -- a record is never refused by 1, by which resistances are
   found : among (1 ∷ 2 ∷ 4 ∷ 6 ∷ []) (numberGiven (recordOf s ratios .tests)) ≡ true → (p : Cell) × (atFault s ratios ≡ some p)
   unfolding atFault ratioAbove cellMissing
   found =
-      by (ratioAbove ratios) (cellMissing ratios (cells s)) (purityCellMissing ratios) (impure s ratios) (deviates ratios) (beyond (fitted ratios (cells s))) refl refl refl refl
-    where
-      by : (above missing purityMissing impurity deviating far : Bool)
-          → ratioAbove ratios ≡ above → cellMissing ratios (cells s) ≡ missing → purityCellMissing ratios ≡ purityMissing → impure s ratios ≡ impurity
-          → among (1 ∷ 2 ∷ 4 ∷ 6 ∷ []) (number above missing purityMissing impurity deviating far) ≡ true
-          → (p : Cell) × (fault above missing purityMissing impurity deviating ≡ some p)
-      by true _ _ _ _ _ a m u i e = first-found (isAbove ratios) allCells a
-      by false true _ _ _ _ a m u i e = first-found (isMissing ratios) (cells s) m
-      by false false true _ _ _ a m u i e = absurd (false≢true e)
-      by false false false true _ _ a m u i e = first-found (breaksPurity s ratios) allCells (some-breaks s ratios u i)
-      by false false false false true _ a m u i e = absurd (false≢true e)
-      by false false false false false true a m u i e = absurd (false≢true e)
-      by false false false false false false a m u i e = absurd (false≢true e)
+      of-given (λ n. among (1 ∷ 2 ∷ 4 ∷ 6 ∷ []) n ≡ true → (p : Cell) × (cellFor s ratios n ≡ some p)) (recordOf s ratios .tests) (
+        λ above e. first-found (isAbove ratios) allCells above,
+        λ _. (
+          λ missing e. first-found (isMissing ratios) (cells s) missing,
+          λ _. (
+            λ _ e. absurd (false≢true e),
+            λ measured. (
+              λ impurity e. first-found (breaksPurity s ratios) allCells (some-breaks s ratios measured impurity),
+              λ _. (
+                λ _ e. absurd (false≢true e),
+                λ _ e. absurd (false≢true e),
+              ),
+            ),
+          ),
+        ),
+      )
 
   no-fault : among (0 ∷ 3 ∷ 5 ∷ []) (numberGiven (recordOf s ratios .tests)) ≡ true → atFault s ratios ≡ none
   unfolding atFault
-  no-fault = by (ratioAbove ratios) (cellMissing ratios (cells s)) (purityCellMissing ratios) (impure s ratios) (deviates ratios) (beyond (fitted ratios (cells s)))
-    where
-      by : (above missing purityMissing impurity deviating far : Bool) → among (0 ∷ 3 ∷ 5 ∷ []) (number above missing purityMissing impurity deviating far) ≡ true → fault above missing purityMissing impurity deviating ≡ none
-      by true _ _ _ _ _ e = absurd (false≢true e)
-      by false true _ _ _ _ e = absurd (false≢true e)
-      by false false true _ _ _ e = refl
-      by false false false true _ _ e = absurd (false≢true e)
-      by false false false false true _ e = absurd (false≢true e)
-      by false false false false false _ e = refl
+  no-fault = of-among (λ n. cellFor s ratios n ≡ none) (0 ∷ 3 ∷ 5 ∷ []) (refl, (refl, (refl, tt))) (numberGiven (recordOf s ratios .tests))
+
+  -- 7 is given for a deviation or for a coefficient
+  refused-by-7 : numberGiven (recordOf s ratios .tests) ≡ 7 → (deviates ratios || beyond (fitted ratios (cells s))) ≡ true
+  refused-by-7 =
+      of-given (λ n. n ≡ 7 → (deviates ratios || beyond (fitted ratios (cells s))) ≡ true) (recordOf s ratios .tests)
+      (λ _ e. absurd (omega arith), λ _. (λ _ e. absurd (omega arith), λ _. (λ _ e. absurd (omega arith), λ _. (λ _ e. absurd (omega arith), λ _. (λ far e. far, λ _ e. absurd (omega arith))))))
+
+  coefficient : numberGiven (recordOf s ratios .tests) ≡ 7 → atFault s ratios ≡ none → (deviates ratios ≡ false) × (beyond (fitted ratios (cells s)) ≡ true)
+  unfolding atFault deviates
+  coefficient is e =
+      let no : deviates ratios ≡ false = none-holds (cellDeviates ratios) allCells (rw is at e) in
+      (no, rw no at (refused-by-7 is))
+
+  never-1 : eqb (numberGiven (recordOf s ratios .tests)) 1 ≡ false
+  never-1 = of-given (λ n. eqb n 1 ≡ false) (recordOf s ratios .tests) (λ _. refl, λ _. (λ _. refl, λ _. (λ _. refl, λ _. (λ _. refl, λ _. (λ _. refl, λ _. refl)))))
 
 module _ (s : Subrange) (resistances : Resistances) where
-  abbrev tests : List Test
-  tests = recordOf s (ratiosOf resistances) .tests
+  abbrev given : ℕ
+  given = numberGiven (resistancesOf s resistances .tests)
 
-  found-by : among (1 ∷ 2 ∷ 4 ∷ 6 ∷ []) (numberGiven (resistancesOf s resistances .tests)) ≡ true → (p : Cell) × (atFaultBy s resistances ≡ some p)
+  -- where no cell is outside, they are at fault as their ratios are
+  pub fault-of-ratios : outside resistances ≡ false → atFaultBy s resistances ≡ atFault s (ratiosOf resistances)
+  unfolding atFault atFaultBy
+  fault-of-ratios inside = rw (inside, never-1 s (ratiosOf resistances))
+
+  found-by : among (1 ∷ 2 ∷ 4 ∷ 6 ∷ []) given ≡ true → (p : Cell) × (atFaultBy s resistances ≡ some p)
   unfolding atFaultBy outside
   found-by = by (outside resistances) refl
     where
-      by : (out : Bool) → outside resistances ≡ out → among (1 ∷ 2 ∷ 4 ∷ 6 ∷ []) (numberGiven (out gives 1 ∷ tests)) ≡ true
-          → (p : Cell) × ((if out then first (cellOutside resistances) allCells else atFault s (ratiosOf resistances)) ≡ some p)
-      by true o e = first-found (cellOutside resistances) allCells o
-      by false o e = found s (ratiosOf resistances) e
+      by : (out : Bool) → outside resistances ≡ out → among (1 ∷ 2 ∷ 4 ∷ 6 ∷ []) given ≡ true → (p : Cell) × (atFaultBy s resistances ≡ some p)
+      by true o e = rw o (first-found (cellOutside resistances) allCells o)
+      by false o e = rw (fault-of-ratios o) (found s (ratiosOf resistances) (rw o at e))
 
-  no-fault-by : among (0 ∷ 3 ∷ 5 ∷ []) (numberGiven (resistancesOf s resistances .tests)) ≡ true → atFaultBy s resistances ≡ none
+  no-fault-by : among (0 ∷ 3 ∷ 5 ∷ []) given ≡ true → atFaultBy s resistances ≡ none
   unfolding atFaultBy
-  no-fault-by = by (outside resistances)
+  no-fault-by = of-among (λ n. cellForBy s resistances n ≡ none) (0 ∷ 3 ∷ 5 ∷ []) (refl, (refl, (refl, tt))) given
+
+  coefficient-by : given ≡ 7 → atFaultBy s resistances ≡ none → (deviates (ratiosOf resistances) ≡ false) × (beyond (fitted (ratiosOf resistances) (cells s)) ≡ true)
+  coefficient-by is e = by (outside resistances) refl
     where
-      by : (out : Bool) → among (0 ∷ 3 ∷ 5 ∷ []) (numberGiven (out gives 1 ∷ tests)) ≡ true → (if out then first (cellOutside resistances) allCells else atFault s (ratiosOf resistances)) ≡ none
-      by true e = absurd (false≢true e)
-      by false e = no-fault s (ratiosOf resistances) e
+      by : (out : Bool) → outside resistances ≡ out → (deviates (ratiosOf resistances) ≡ false) × (beyond (fitted (ratiosOf resistances) (cells s)) ≡ true)
+      by true o = let one = rw o at is in absurd (omega arith)
+      by false o = coefficient s (ratiosOf resistances) (rw o at is) (rw (fault-of-ratios o) at e)
 
 -- ---- by what the name names
 module _ (rule : Subrange → Rule LawAndPlaces) (fault : Subrange → Option Cell) (o : Outcome LawAndPlaces) where
@@ -119,6 +151,10 @@ module _ (rule : Subrange → Rule LawAndPlaces) (fault : Subrange → Option Ce
       → (named : Option Subrange) → Follows (ifNamed noPlaces named rule) o → among (0 ∷ 3 ∷ 5 ∷ []) (o .code) ≡ true → ofNamed named fault ≡ none
   named-none each none h e = refl
   named-none each (some s) h e = each s (rw (code-is-given (rule s) o h) at e)
+
+  named-coefficient : {P : Subrange → Type 0} → ((s : Subrange) → numberGiven (rule s .tests) ≡ 7 → fault s ≡ none → P s)
+      → (named : Option Subrange) (s : Subrange) → named ≡ some s → Follows (ifNamed noPlaces named rule) o → o .code ≡ 7 → ofNamed named fault ≡ none → P s
+  named-coefficient each named s is h e f = each s (sym (code-is-given (rule s) o (rw is at h)) ∙ e) (rw is at f)
 
 or-later : (a b : Bool) → b ≡ true → (a || b) ≡ true
 or-later true b e = refl
@@ -140,6 +176,14 @@ fault-found-by resistances o = named-found (λ s. resistancesOf s resistances) (
 pub none-at-fault-by : NoneAtFaultBy
 unfolding cellAtFaultBy
 none-at-fault-by resistances o = named-none (λ s. resistancesOf s resistances) (λ s. atFaultBy s resistances) o (λ s. no-fault-by s resistances) (subrangeNamed (resistances .subrange .0))
+
+pub coefficient-at-fault : CoefficientAtFault
+unfolding cellAtFault
+coefficient-at-fault ratios s o = named-coefficient (λ s. recordOf s ratios) (λ s. atFault s ratios) o (λ s. coefficient s ratios) (subrangeNamed (ratios .subrange .0)) s
+
+pub coefficient-at-fault-by : CoefficientAtFaultBy
+unfolding cellAtFaultBy
+coefficient-at-fault-by resistances s o = named-coefficient (λ s. resistancesOf s resistances) (λ s. atFaultBy s resistances) o (λ s. coefficient-by s resistances) (subrangeNamed (resistances .subrange .0)) s
 
 -- ---- one answer
 stated-unique : (x y : FaultyCell) → statedCell x ≡ statedCell y → x ≡ y

@@ -3,13 +3,16 @@ use mathlib.Core.Path.{_≡_, refl}
 use mathlib.Core.Bool.{Bool, true, false, true≢false, false≢true, _||_}
 use mathlib.Core.List.{List, [], _∷_}
 use mathlib.Core.Option.{Option, none, some}
+use Prim.Native.Nat.{ℕ}
+use native.Mathlib.Omega.{arith}
 use Rattle.whole.specs.Any.{any}
 use Rattle.whole.specs.Choice.{if_then_else_}
 use Rattle.law.specs.declared.cell.Cell.{Cell}
+use Rattle.law.specs.declared.subrange.Subrange.{Subrange}
 use Rattle.law.specs.Cells.{allCells}
 use Rattle.certificate.specs.declared.record.Record.{Record}
 use Rattle.certificate.specs.Record.{cellDeviates, deviates}
-use Rattle.certificate.specs.AtFault.{first, foundOr}
+use Rattle.certificate.specs.AtFault.{first, cellFor, foundOr}
 
 module _ (holds : Cell → Bool) where
   -- as code tries them, from the first on
@@ -46,11 +49,19 @@ module _ (holds : Cell → Bool) where
       by true e later = absurd (true≢false e)
       by false e later = later e
 
--- the first that deviates, none where none does
-pub if-deviating : (ratios : Record) → first (cellDeviates ratios) allCells ≡ (if deviates ratios then first (cellDeviates ratios) allCells else none)
+  pub none-holds : (ps : List Cell) → first holds ps ≡ none → any holds ps ≡ false
+  none-holds ps e = by (any holds ps) refl
+    where
+      by : (t : Bool) → any holds ps ≡ t → t ≡ false
+      by false h = refl
+      by true h = let f = first-found ps h in let o = f .1 in absurd (let z : _≡_ {A = ℕ} 0 1 = cc in omega arith)
+
+-- the first that deviates, none where 7 is given for a coefficient or is not given
+pub if-deviating : (s : Subrange) (ratios : Record) (far : Bool) → first (cellDeviates ratios) allCells ≡ cellFor s ratios (if deviates ratios || far then 7 else 0)
 unfolding deviates
-if-deviating ratios = by (any (cellDeviates ratios) allCells) refl
+if-deviating s ratios far = by (any (cellDeviates ratios) allCells) far refl
   where
-    by : (t : Bool) → any (cellDeviates ratios) allCells ≡ t → first (cellDeviates ratios) allCells ≡ (if t then first (cellDeviates ratios) allCells else none)
-    by true e = refl
-    by false e = first-none (cellDeviates ratios) allCells e
+    by : (t far : Bool) → any (cellDeviates ratios) allCells ≡ t → first (cellDeviates ratios) allCells ≡ cellFor s ratios (if t || far then 7 else 0)
+    by true _ e = refl
+    by false true e = refl
+    by false false e = first-none (cellDeviates ratios) allCells e

@@ -2,7 +2,10 @@
 use mathlib.Core.Bool.{Bool, false, _&&_, not}
 use mathlib.Core.List.{List, [], _∷_}
 use mathlib.Core.Option.{Option, none, some}
+use Prim.Native.Nat.{ℕ}
+use lib.Dec.{eqb}
 use Rattle.whole.specs.Choice.{if_then_else_}
+use Rattle.quantity.specs.Outcomes.{numberGiven}
 use Rattle.purity.specs.Purity.{byGalliumOrMercury, bySilver}
 use Rattle.law.specs.declared.cell.Cell.{Cell}
 use Rattle.law.specs.declared.cell.Cell.the-variants as cell
@@ -13,8 +16,8 @@ use Rattle.certificate.specs.declared.record.Record.{Record}
 use Rattle.certificate.specs.declared.resistances.Resistances.{Resistances}
 use Rattle.certificate.specs.declared.fault.FaultyCell.{FaultyCell}
 use Rattle.certificate.specs.declared.fault.FaultyCell.the-variants.{At, Nowhere}
-use Rattle.certificate.specs.Record.{ratio, measured, isAbove, ratioAbove, isMissing, cellMissing, purityCellMissing, impure, cellDeviates, deviates}
-use Rattle.certificate.specs.Resistances.{cellOutside, outside, ratiosOf}
+use Rattle.certificate.specs.Record.{ratio, measured, isAbove, isMissing, cellDeviates, recordOf}
+use Rattle.certificate.specs.Resistances.{cellOutside, ratiosOf, resistancesOf}
 
 -- Of a list, the first cell of which something holds.
 abbrev pub first : (Cell → Bool) → List Cell → Option Cell
@@ -36,22 +39,26 @@ breaksPurity s ratios cell.Zn = false
 breaksPurity s ratios cell.Al = false
 breaksPurity s ratios cell.Ag = toSilver (carried s .form) && not (bySilver (ratio ratios cell.Ag))
 
--- Of a record of a known subrange, by its tests in their order, 2, 4, 5, 6, 7. For 4 the cells are those that the subrange needs. 5 has no single cell;
--- nor has a coefficient beyond its limit. A record that is accepted has none.
-unfoldable pub atFault : Subrange → Record → Option Cell
-atFault s ratios =
-    if ratioAbove ratios then first (isAbove ratios) allCells
-    else if cellMissing ratios (cells s) then first (isMissing ratios) (cells s)
-    else if purityCellMissing ratios then none
-    else if impure s ratios then first (breaksPurity s ratios) allCells
-    else if deviates ratios then first (cellDeviates ratios) allCells
+-- Of the test with this number, the first cell that fails it. For 4 the cells are those that the subrange needs. 5 has no single cell, nor has any number
+-- that is not here.
+abbrev pub cellFor : Subrange → Record → ℕ → Option Cell
+cellFor s ratios number =
+    if eqb number 2 then first (isAbove ratios) allCells
+    else if eqb number 4 then first (isMissing ratios) (cells s)
+    else if eqb number 6 then first (breaksPurity s ratios) allCells
+    else if eqb number 7 then first (cellDeviates ratios) allCells
     else none
 
--- The same by resistances: 1, then the tests of the record of their ratios.
+-- By the number that the tests of a record of a known subrange give. Where 7 is given for a coefficient, no cell deviates, and there is none.
+unfoldable pub atFault : Subrange → Record → Option Cell
+atFault s ratios = cellFor s ratios (numberGiven (recordOf s ratios .tests))
+
+-- The same by resistances, which have 1 besides.
+abbrev pub cellForBy : Subrange → Resistances → ℕ → Option Cell
+cellForBy s resistances number = if eqb number 1 then first (cellOutside resistances) allCells else cellFor s (ratiosOf resistances) number
+
 unfoldable pub atFaultBy : Subrange → Resistances → Option Cell
-atFaultBy s resistances =
-    if outside resistances then first (cellOutside resistances) allCells
-    else atFault s (ratiosOf resistances)
+atFaultBy s resistances = cellForBy s resistances (numberGiven (resistancesOf s resistances .tests))
 
 -- None where no subrange has the name that is given.
 abbrev pub ofNamed : Option Subrange → (Subrange → Option Cell) → Option Cell
@@ -69,6 +76,7 @@ abbrev pub statedCell : FaultyCell → Option Cell
 statedCell (At p) = some p
 statedCell Nowhere = none
 
+-- ---- what an inner function answers
 -- The cell found before, else this one where something holds of it.
 abbrev pub foundOr : Option Cell → Cell → Bool → Option Cell
 foundOr (some found) p holds = some found

@@ -8,11 +8,14 @@ use lib.Dec.{eqb}
 use Rattle.whole.specs.Any.{any}
 use Rattle.quantity.specs.Outcomes.{Outcome, answered, Follows}
 use Rattle.law.specs.declared.cell.Cell.{Cell}
+use Rattle.law.specs.declared.subrange.Subrange.{Subrange}
+use Rattle.law.specs.Subranges.{cells, subrangeNamed}
+use Rattle.fit.specs.Fit.{beyond}
 use Rattle.certificate.specs.declared.record.Record.{Record}
 use Rattle.certificate.specs.declared.resistances.Resistances.{Resistances}
 use Rattle.certificate.specs.declared.soundness.Certificate.{Certificate}
 use Rattle.certificate.specs.Certificate.{sound, givenOf, LawAndPlaces, held, givenRule}
-use Rattle.certificate.specs.Record.{recordRule}
+use Rattle.certificate.specs.Record.{deviates, fitted, recordRule}
 use Rattle.certificate.specs.Resistances.{outside, ratiosOf, resistancesRule}
 use Rattle.certificate.specs.AtFault.{cellAtFault, cellAtFaultBy}
 
@@ -70,3 +73,17 @@ abbrev pub NoneAtFaultBy : Type 0
 NoneAtFaultBy =
     (resistances : Resistances) (o : Outcome LawAndPlaces) → Follows (resistancesRule resistances) o → among (0 ∷ 3 ∷ 5 ∷ []) (o .code) ≡ true
     → cellAtFaultBy resistances ≡ none
+
+-- A record that is refused by 7 and has no cell at fault has no cell whose deviation is beyond its limit: it is a coefficient that is beyond its own.
+abbrev pub CoefficientAtFault : Type 0
+CoefficientAtFault =
+    (ratios : Record) (s : Subrange) (o : Outcome LawAndPlaces) → subrangeNamed (ratios .subrange .0) ≡ some s → Follows (recordRule ratios) o → o .code ≡ 7
+    → cellAtFault ratios ≡ none
+    → (deviates ratios ≡ false) × (beyond (fitted ratios (cells s)) ≡ true)
+
+-- The same of resistances, by their ratios.
+abbrev pub CoefficientAtFaultBy : Type 0
+CoefficientAtFaultBy =
+    (resistances : Resistances) (s : Subrange) (o : Outcome LawAndPlaces) → subrangeNamed (resistances .subrange .0) ≡ some s → Follows (resistancesRule resistances) o → o .code ≡ 7
+    → cellAtFaultBy resistances ≡ none
+    → (deviates (ratiosOf resistances) ≡ false) × (beyond (fitted (ratiosOf resistances) (cells s)) ≡ true)

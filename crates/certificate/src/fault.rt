@@ -1,4 +1,4 @@
-// The cell at fault first in a record that is refused.
+// The first cell at fault in a record that is refused.
 ghost use mathlib.Core.Path.{_≡_};
 ghost use Rattle.law.specs.Cells.{allCells};
 ghost use Rattle.law.specs.Listed.{listed};
@@ -15,7 +15,7 @@ use law::Subrange;
 use purity::by_gallium_or_mercury;
 use purity::by_silver;
 
-// The cell at fault first, or that there is none.
+// The first cell at fault, or that there is none.
 pub enum FaultyCell {
     At(Cell),
     Nowhere,
@@ -102,10 +102,12 @@ impl Record {
         ensures { λ r. ⌜ statedCell r ≡ atFault subrange self ⌝ }
     {
         let needed = subrange.cells();
-        if self.ratio_above() {
+        let above = self.ratio_above();
+        let missing = self.cell_missing(needed);
+        if above {
             return self.first_above();
         }
-        if self.cell_missing(needed) {
+        if missing {
             return self.first_missing(needed);
         }
         if self.purity_cell_missing() {
@@ -117,7 +119,7 @@ impl Record {
         self.first_deviating()
     }
 
-    // The cell at fault first, in the test by which the record is refused.
+    // The first cell at fault, in the test by which the record is refused.
     pub fn faulty_cell(self) -> FaultyCell
         ensures { λ r. ⌜ statedCell r ≡ cellAtFault self ⌝ }
     {
@@ -142,7 +144,7 @@ impl Resistances {
             .or(Cell::Ag, self.silver.is_outside())
     }
 
-    // The cell at fault first, in the test by which the resistances are refused.
+    // The first cell at fault, in the test by which the resistances are refused.
     pub fn faulty_cell(self) -> FaultyCell
         ensures { λ r. ⌜ statedCell r ≡ cellAtFaultBy self ⌝ }
     {

@@ -4,6 +4,7 @@ use mathlib.Core.Path.{_≡_, sym, _∙_}
 use mathlib.Core.Bool.{false}
 use Rattle.certificate.specs.Resistances.{outside}
 use Rattle.certificate.specs.AtFault.{atFaultBy, cellAtFaultBy}
+use Rattle.certificate.proofs.AtFault.{fault-of-ratios}
 use Rattle.certificate.proofs.resistances.Resistances.faulty_cell.Statement.{statement}
 use Rattle.certificate.proofs.resistances.Resistances.faulty_cell.Tie as tie
 
@@ -46,12 +47,12 @@ returns-2 c =
     rw (← (rw (c .enum-told .given .1) at (n .named .ensures)))
 
 returns-3 : tie.Need-returns-3
-unfolding atFaultBy cellAtFaultBy
+unfolding cellAtFaultBy
 returns-3 c =
     let e = c .before .before in
     let u = e .before .before .before in
     let n = u .before .before in
-    rw (← (rw (u .subrange .given .1) at (n .named .ensures)), inside e) (rw (c .before .ratios .ensures) at (c .at-fault .ensures))
+    rw (← (rw (u .subrange .given .1) at (n .named .ensures)), fault-of-ratios (u .subrange .given .0 .0) (n .before .args .self) (inside e)) (rw (c .before .ratios .ensures) at (c .at-fault .ensures))
 
 pub faulty-cell-spec : {M : Type 1} → statement M
 faulty-cell-spec =
