@@ -6,9 +6,11 @@ import sys
 # A test run leaves nothing behind in the folder.
 sys.dont_write_bytecode = True
 
+import subprocess
 from functools import partial
 from itertools import zip_longest
 from pathlib import Path
+from tempfile import TemporaryDirectory
 
 import cards
 import launchlist_cases
@@ -22,7 +24,7 @@ from certificate import WR, certify, given
 from curve import allows, forward, read, tolerance
 from faults import refused_lines
 from lists import LISTS, answer
-from messages import said, shown
+from messages import MENDING, said, shown
 from quantity import Refused, kelvin, quotient_down, ratio
 from reading import deviation_at
 from reference import BELOW, PAST, PAST_TOP, TOP, inverse, working
@@ -249,14 +251,58 @@ def said_of(header, line):
 
 
 JOINED = (
-    b"launchlist: line 2: lines are joined to one by a LF without CR, and none of them "
-    b"is answered; to mend the list: sed 's/\\r*$/\\r/' LIST\n"
+    b"launchlist: line 2: it holds a LF without CR, which ends no line, and nothing in "
+    b"it is answered; to mend the list: sed 's/\\r*$/\\r/;$a\\' LIST\n"
+)
+FEEDS = (
+    b"  its lines end with LF alone, and CRLF is wanted: sed 's/\\r*$/\\r/;$a\\' LIST"
 )
 
 
 def said_last(count):
     """What is said last of so many lines joined by LF."""
     return said("launchlist", LIST_HEAD + b"a\nb\r\n" * count).splitlines()[-1][:40]
+
+
+def reason_of(data):
+    """What is said last of a list with a wrong header."""
+    return said("launchlist", data).splitlines()[-1]
+
+
+def mended(data):
+    """What the command that is offered makes of a list."""
+    with TemporaryDirectory() as folder:
+        (Path(folder) / "LIST").write_bytes(data)
+        made = subprocess.run(MENDING, shell=True, cwd=folder, capture_output=True)
+    return made.stdout
+
+
+# How the lines of a list may end, and the last one of them.
+ENDS = {
+    "LF": (b"\n",),
+    "CRLF": (b"\r\n",),
+    "CR CR LF": (b"\r\r\n",),
+    "CRLF and LF": (b"\r\n", b"\n"),
+    "LF and CRLF": (b"\n", b"\r\n"),
+    "LF, CRLF and CR CR LF": (b"\n", b"\r\n", b"\r\r\n"),
+}
+LAST_ENDS = (b"\n", b"\r\n", b"\r\r\n", b"\r", b"")
+
+
+def list_ended(ends, last):
+    """The document's list with its lines ended by these in turn, the last by its
+    own."""
+    *lines, end = LIST.removesuffix(b"\r\n").split(b"\r\n")
+    ended = [line + ends[i % len(ends)] for i, line in enumerate(lines)]
+    return b"".join(ended) + end + last
+
+
+def mending_checks():
+    """That each of these lists is mended."""
+    for name, ends in ENDS.items():
+        for last in LAST_ENDS:
+            what = f"lines ended by {name}, the last by {last}, mended"
+            yield what, LIST, mended, list_ended(ends, last)
 
 
 NO_RECORD = crlf("id,law,a,b,c,d,wal,code\n?,?,,,,,,10\n")
@@ -656,12 +702,16 @@ SELF_CHECKS = (
     ),
     ("LF as byte 201", JOINED, said, "launchlist", LIST_HEAD + b"x" * 200 + b"\n"),
     ("LF as byte 202", b"", said, "launchlist", LIST_HEAD + b"x" * 201 + b"\n"),
-    ("line 101", b"launchlist: line 101: lines are joined t", said_last, 100),
+    ("line 101", b"launchlist: line 101: it holds a LF with", said_last, 100),
     ("line 102", b"launchlist: more lines have a fault; onl", said_last, 101),
     ("line 103", b"launchlist: more lines have a fault; onl", said_last, 102),
+    ("LF alone", FEEDS, reason_of, LIST.replace(b"\r\n", b"\n")),
+    *mending_checks(),
+    ("an empty list mended", b"", mended, b""),
+    ("empty lines mended", b"\r\n" * 3, mended, b"\n\r\n\n"),
     (
         "said of 1",
-        "1, hg: its resistances are outside the limits\n",
+        "1, hg: its R or R0 is outside its limits\n",
         *(said_of, RESISTANCES, "R1,ga,1,0,0,0" + FIVE_NOT_MEASURED),
     ),
     (

@@ -2,7 +2,7 @@
 bytes of each.
 
 Wrong headers, last lines cut short, lists that end at, before or past the end of a
-block, and lists with lines of which something is said.
+block, lists with lines of which something is said, and short ones with long answers.
 """
 
 from functools import lru_cache
@@ -10,7 +10,7 @@ from itertools import chain, cycle, islice
 
 from cases import CheckFailed, Generator
 from damage import BYTE_ORDER_MARK, CR, LF, LONG, NUL
-from faults import refused_lines
+from faults import REFUSED, refused_lines
 from lists import COMMA, LINE_END
 from samples import GOOD, NEXT, drawn_line
 
@@ -210,10 +210,68 @@ def refused_inputs(one):
     yield "51 refused lines, 50 joined by LF", listed(one, *both, lines[0], good)
 
 
+def first_refused(one):
+    """The first line of each number, and of 7 also the first for a coefficient."""
+    first = {}
+    for line, number, cell in REFUSED[one]:
+        first.setdefault((number, cell is None), line)
+    return first.values()
+
+
+def open_inputs(one):
+    """Lists whose last line, with a fault, lacks its CRLF."""
+    for line in first_refused(one):
+        label = line.decode("ascii").split(",")[0]
+        yield f"refused {label} without CRLF", listed(one, GOOD[one]) + line
+    refused = next(refused_lines(one))
+    for count in (99, 100):
+        start = listed(one, *[TWO] * count)
+        yield f"{count} lines joined by LF, one without CRLF", start + TWO
+        yield f"{count} lines joined by LF, refused without CRLF", start + refused
+
+
 def said_inputs(one):
     """Lists about what is said of lines, each small enough to be fed slowly."""
     yield from joined_inputs(one)
     yield from refused_inputs(one)
+    yield from open_inputs(one)
+
+
+# Empty lines have answers longer than they are: those to one read are more than the
+# program writes at once, and it feeds the rest again.
+
+SHORT = 20000  # lines
+AT_ONCE = 65536  # bytes
+NEAR = 200  # bytes
+
+
+def faulty_at(one, places):
+    """Empty lines, and faulty ones in these places."""
+    lines = [b""] * SHORT
+    for place, line in zip(places, cycle(with_joined(refused_lines(one)))):
+        lines[place] = line
+    return lines
+
+
+def faulty_about_edges(one):
+    """Empty lines, and faulty ones where the answers come to the end of a block."""
+    faults = cycle(with_joined(refused_lines(one)))
+    size = len(one.answer_header + LINE_END)
+    for _ in range(SHORT):
+        near = size > NEAR and (size + NEAR) % AT_ONCE < 2 * NEAR
+        line = next(faults) if near else b""
+        yield line
+        size += len(one.answer_line(line) + LINE_END)
+
+
+def long_answers(one):
+    """Lists whose answers to one read are long. Of the second more than a hundred
+    lines have a fault."""
+    for step in (400, 75):
+        lines = faulty_at(one, range(step, SHORT, step))
+        yield f"long answers, each {step} lines a fault", listed(one, *lines)
+    lines = faulty_about_edges(one)
+    yield "long answers, faults about the ends of blocks", listed(one, *lines)
 
 
 BLOCKS = (4096, 8192, 65536, 131072)
@@ -297,5 +355,6 @@ def whole_inputs(one):
     yield from row_runs(one)
     yield from block_runs(one)
     yield from said_inputs(one)
+    yield from long_answers(one)
     yield "big list", listed(one, *big_lines(one))
     yield "big list with faults", big_faulty(one)

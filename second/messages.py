@@ -15,13 +15,16 @@ CR = b"\r"
 MARK = b"\xef\xbb\xbf"
 WIDE = (b"\xff\xfe", b"\xfe\xff")
 
+# Ends each line of a list with CRLF.
+MENDING = r"sed 's/\r*$/\r/;$a\' LIST"
+
 EMPTY = "the input is empty"
 MARKED = "it begins with a byte order mark: save the list as plain text, without one"
 WIDE_TEXT = "it is UTF-16: save the list as plain text (ASCII or UTF-8)"
 QUOTES = "it has quotes: save the list without them"
 SEMICOLONS = "it has semicolons: separate the fields by commas"
 BLANKS = "it has blanks: write the header without them"
-FEEDS = "its lines end with LF alone, and CRLF is wanted: sed 's/$/\\r/' LIST"
+FEEDS = f"its lines end with LF alone, and CRLF is wanted: {MENDING}"
 
 # So many first bytes of a line are looked at for a LF.
 LOOKED_AT = LINE_MOST + 1
@@ -29,12 +32,12 @@ LOOKED_AT = LINE_MOST + 1
 SAID_MOST = 100  # messages of lines
 
 JOINED = (
-    "lines are joined to one by a LF without CR, and none of them is answered; "
-    "to mend the list: sed 's/\\r*$/\\r/' LIST"
+    "it holds a LF without CR, which ends no line, and nothing in it is answered; "
+    f"to mend the list: {MENDING}"
 )
 # Of a record's refusals, what is said of the first cell at fault.
 OF_CELL = {
-    1: "its resistances are outside the limits",
+    1: "its R or R0 is outside its limits",
     2: "its ratio is above 4.4",
     4: "the subrange needs this cell, and it was not measured",
     6: "the purity relation is not met",

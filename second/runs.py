@@ -15,11 +15,12 @@ sys.dont_write_bytecode = True
 
 import os
 import pty
+import signal
 import subprocess
 import time
 import tty
 from concurrent.futures import ThreadPoolExecutor
-from contextlib import suppress
+from contextlib import contextmanager, suppress
 from functools import lru_cache
 from itertools import chain, zip_longest
 from pathlib import Path
@@ -27,7 +28,7 @@ from tempfile import TemporaryFile
 from threading import Event, Timer
 
 from damage import CR
-from inputs import example, said_inputs, whole_inputs
+from inputs import AT_ONCE, example, long_answers, said_inputs, whole_inputs
 from launchlist_cases import stdin
 from lists import LINE_END, PROGRAMS, answer
 from messages import COUNTED, first_unlike, said, shown
@@ -41,8 +42,6 @@ LIMIT = 60  # seconds after which a run that has not ended is ended
 
 # Seconds between two pieces of input, so that the program meets them singly.
 PAUSE = 0.0005
-
-AT_ONCE = 65536
 
 FULL_DEVICE = Path("/dev/full")
 
@@ -174,11 +173,18 @@ def check_list(command, data, parts, pause=0):
     must_answer(command, data, *run(command, parts, pause))
 
 
-def check_file(command, data):
-    """A list from a file."""
+@contextmanager
+def file_of(data):
+    """A file of these bytes, open for reading."""
     with TemporaryFile() as file:
         file.write(data)
         file.seek(0)
+        yield file
+
+
+def check_file(command, data):
+    """A list from a file."""
+    with file_of(data) as file:
         must_answer(command, data, *run(command, stdin=file))
 
 
@@ -238,23 +244,64 @@ def check_full(command, data):
     must_complain(status, err)
 
 
+def must_not_count(err):
+    if COUNTED.encode("ascii") in err:
+        raise Failed(f"standard error holds {shown(err)}")
+
+
 def check_full_terminal(command, data):
     """The same with standard error on a terminal: no lines are counted."""
     with open(FULL_DEVICE, "wb") as device:
         ended, err = run_on_terminal(command, data, "stderr", stdout=device)
     must_complain(ended[0], err)
-    if COUNTED.encode("ascii") in err:
-        raise Failed(f"standard error holds {shown(err)}")
+    must_not_count(err)
 
 
-def run_unread(command, data, **signals):
-    """A run whose standard output is a pipe that nobody reads any more."""
+@contextmanager
+def directory():
+    """A directory, which can be opened and not read."""
+    end = os.open("/", os.O_RDONLY)
+    try:
+        yield end
+    finally:
+        os.close(end)
+
+
+def must_have_stopped(status, out, err):
+    """What is due where nothing could be read."""
+    must_complain(status, err)
+    must_be_silent("standard output", out)
+
+
+def check_directory(command):
+    """A directory as standard input."""
+    with directory() as end:
+        must_have_stopped(*run(command, stdin=end))
+
+
+def check_directory_terminal(command):
+    """The same with standard error on a terminal: no lines are counted."""
+    with directory() as end:
+        (status, out, _), err = run_on_terminal(command, b"", "stderr", stdin=end)
+    must_have_stopped(status, out, err)
+    must_not_count(err)
+
+
+@contextmanager
+def unread():
+    """A pipe that nobody reads any more."""
     reader, writer = os.pipe()
     os.close(reader)
     try:
-        return run(command, pieces(data, AT_ONCE), stdout=writer, **signals)
+        yield writer
     finally:
         os.close(writer)
+
+
+def run_unread(command, data, **signals):
+    """A run whose standard output is such a pipe."""
+    with unread() as writer:
+        return run(command, pieces(data, AT_ONCE), stdout=writer, **signals)
 
 
 def check_unread(command, data):
@@ -266,6 +313,98 @@ def check_unread(command, data):
 def check_signalled(command, data):
     """With the signal as usual, which may end the program: that it ends."""
     run_unread(command, data)
+
+
+def run_unheard(command, data, **signals):
+    """A run on a list from a file, its standard error such a pipe; and the answers
+    due."""
+    with unread() as writer, file_of(data) as file:
+        status, out, _ = run(command, stdin=file, stderr=writer, **signals)
+    return status, out, answer(program_of(command), data)
+
+
+def check_unheard(command, data):
+    """With the signal ignored: all answers come."""
+    status, out, due = run_unheard(command, data, restore_signals=False)
+    must_have_ended(status)
+    must_be(out, due)
+
+
+def first_said(program, data):
+    """The number of the first line of which something is said."""
+    _, number, *_ = said(program, data).split(b": ", 2)
+    return int(number.removeprefix(b"line "))
+
+
+def must_have_lines(out, count):
+    if out.count(LINE_END) < count:
+        raise Failed(f"{out.count(LINE_END)} lines came, due {count} or more")
+
+
+def at_once(data, due):
+    """Whether a list comes in one read and its answers go in one write: a last line
+    without CRLF is answered later."""
+    return data.endswith(LINE_END) and max(len(data), len(due)) <= AT_ONCE
+
+
+def check_unheard_signalled(command, data):
+    """With the signal as usual, which may end the program at its first message: what
+    it is about is answered before, and so is all that was read with it."""
+    status, out, due = run_unheard(command, data)
+    if status != -signal.SIGPIPE:
+        must_have_ended(status)
+    elif not at_once(data, due):
+        must_have_lines(out, first_said(program_of(command), data))
+        due = due[: len(out)]
+    must_be(out, due)
+
+
+def run_with_status(command, parts=(), **streams):
+    """A run with its descriptor 3 on a pipe, and what came there."""
+    reader, writer = os.pipe()
+    shell = ("sh", "-c", f'exec "$@" 3>/dev/fd/{writer}', "sh")
+    with open(reader, "rb") as came:
+        with open(writer, "wb"):
+            ended = run([*shell, *command], parts, pass_fds=(writer,), **streams)
+        return ended, came.read()
+
+
+def must_be_status(came, due):
+    if came != due:
+        raise Failed(f"on descriptor 3 comes {shown(came)}, due {shown(due)}")
+
+
+def check_status(command, data, due):
+    """A list by --status: all as without it, and this status."""
+    asked = [*command, "--status"]
+    ended, came = run_with_status(asked, pieces(data, AT_ONCE))
+    must_answer(command, data, *ended)
+    must_be_status(came, due)
+
+
+def check_status_full(command, data):
+    """The same where the answers go to a full device."""
+    asked = [*command, "--status"]
+    with open(FULL_DEVICE, "wb") as device:
+        parts = pieces(data, AT_ONCE)
+        (status, _, err), came = run_with_status(asked, parts, stdout=device)
+    must_complain(status, err)
+    must_be_status(came, b"1")
+
+
+def check_status_directory(command):
+    """The same with a directory as standard input."""
+    with directory() as end:
+        ended, came = run_with_status([*command, "--status"], stdin=end)
+    must_have_stopped(*ended)
+    must_be_status(came, b"1")
+
+
+def check_no_status(command, data):
+    """Without --status nothing comes on descriptor 3."""
+    ended, came = run_with_status(command, pieces(data, AT_ONCE))
+    must_answer(command, data, *ended)
+    must_be_status(came, b"")
 
 
 BYTE_BY_BYTE = (
@@ -314,6 +453,32 @@ ON_TERMINAL = (
     "big list with faults",
 )
 
+# Run with standard error on a pipe that nobody reads any more.
+UNHEARD = (
+    "300 lines joined by LF",
+    "51 refused lines, 50 joined by LF",
+    "100 lines joined by LF, one without CRLF",
+    "long answers, each 75 lines a fault",
+    "big list with faults",
+)
+
+# Run by --status, and the status due.
+STATUS = {
+    "example": b"0",
+    "example without last CRLF": b"0",
+    "header": b"0",
+    "header without CRLF": b"0",
+    "refused lines": b"0",
+    "rows joined by LF": b"0",
+    "51 refused lines, 50 joined by LF": b"0",
+    "big list with faults": b"0",
+    "empty": b"1",
+    "CRLF only": b"1",
+    "lines ended by LF": b"1",
+    "wrong header: trailing space": b"1",
+    "wrong header: 70000 letters": b"1",
+}
+
 TOO_MANY = (
     ("list.csv",),
     ("-h",),
@@ -327,12 +492,18 @@ TOO_MANY = (
 )
 
 
+@lru_cache(maxsize=None)
+def inputs_of(one):
+    return dict(whole_inputs(one))
+
+
 def list_checks(one):
     """Name, check and its arguments of each run on a list."""
-    inputs = dict(whole_inputs(one))
+    inputs = inputs_of(one)
     for name, data in inputs.items():
         yield name, check_list, data, pieces(data, AT_ONCE)
-    yield "example from a file", check_file, inputs["example"]
+    for name in ("example", *dict(long_answers(one))):
+        yield f"{name} from a file", check_file, inputs[name]
     for name in ON_TERMINAL:
         yield f"{name}, on a terminal", check_terminal, inputs[name]
     name, data = "refused lines", inputs["refused lines"]
@@ -343,9 +514,28 @@ def list_checks(one):
             yield full, check_full_terminal, inputs[name]
 
 
+def status_checks(one):
+    """The same of the runs that tell their status."""
+    inputs = inputs_of(one)
+    for name, due in STATUS.items():
+        yield f"{name}, status", check_status, inputs[name], due
+    yield "refused lines, no status", check_no_status, inputs["refused lines"]
+    for name in ("header", "example", "big list"):
+        if FULL_DEVICE.is_char_device():
+            yield f"{name}, full device, status", check_status_full, inputs[name]
+
+
+def unheard_checks(one):
+    """The same of the runs whose standard error nobody reads."""
+    for name in UNHEARD:
+        data = inputs_of(one)[name]
+        yield f"{name}, unheard", check_unheard, data
+        yield f"{name}, unheard, signalled", check_unheard_signalled, data
+
+
 def slow_checks(one):
     """The same of the runs on a list in small pieces."""
-    inputs = dict(whole_inputs(one))
+    inputs = inputs_of(one)
     for name in BYTE_BY_BYTE:
         slow = pieces(inputs[name], 1)
         yield f"{name}, byte by byte", check_list, inputs[name], slow, PAUSE
@@ -373,7 +563,8 @@ def launchlist_checks():
 
 def all_list_checks(command):
     for one in PROGRAMS[program_of(command)]:
-        for name, *check in chain(list_checks(one), slow_checks(one)):
+        checks = chain(list_checks(one), status_checks(one), slow_checks(one))
+        for name, *check in checks:
             yield f"{one.name}, {name}", *check
     if program_of(command) == "launchlist":
         yield from launchlist_checks()
@@ -385,13 +576,19 @@ def other_checks(command):
     yield "--help with the input open", check_help_open
     for arguments in TOO_MANY:
         yield f"arguments {arguments}", check_refused, arguments
-    inputs = dict(whole_inputs(PROGRAMS[program_of(command)][0]))
+    yield "a directory", check_directory
+    yield "a directory, on a terminal", check_directory_terminal
+    yield "a directory, status", check_status_directory
+    first, *_ = known = PROGRAMS[program_of(command)]
     for name in ("example", "big list"):
-        data = inputs[name]
+        data = inputs_of(first)[name]
         if FULL_DEVICE.is_char_device():
             yield f"{name}, full device", check_full, data
         yield f"{name}, output not read", check_unread, data
         yield f"{name}, output not read, signalled", check_signalled, data
+    for one in known:
+        for name, *check in unheard_checks(one):
+            yield f"{one.name}, {name}", *check
 
 
 def failure(command, name, check, *arguments):
