@@ -17,7 +17,8 @@ use crate::tally::no_lines;
 use line::LineAnswer;
 use lines::MOST_HELD;
 
-// What a feeding did: the new state, how many bytes of the chunk it used and how many of the buffer it wrote, the tally of the lines that ended, and the code: 11 where it left bytes of the chunk because the buffer was too short for a line's answer, else 0.
+// What a feeding did: the new state, how many bytes of the chunk it used and how many of the buffer it wrote, the tally of the lines that ended, and the
+// code: 11 where it left bytes of the chunk because the buffer was too short for a line's answer, else 0.
 pub struct Fed {
     pub state: State,
     pub used: usize,

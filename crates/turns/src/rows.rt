@@ -69,7 +69,7 @@ fn is_header(stage: Stage) -> bool {
 }
 
 impl Counts {
-    // With lines that were answered.
+    // With so many lines more, and so many of them refused.
     fn and(self, lines: u64, refused: u64) -> Counts {
         Counts {
             lines: std::num::wrapping_add_u64(self.lines, lines),

@@ -33,6 +33,10 @@ Fed = tie.After-feed Inv-loop μ-loop
 abbrev head : Fed → Head
 head c = c .before .before .before .before
 
+-- after its answers were written
+abbrev fed : tie.After-wrote Inv-loop μ-loop → Fed
+fed c = c .before .before .before .before .before .before
+
 loop-holds : tie.Need-loop-holds Inv-loop μ-loop
 loop-holds c = search needs
 
@@ -86,7 +90,7 @@ after-requires c κs = search needs
 
 same-length : tie.Need-same-length Inv-loop μ-loop
 same-length c =
-    let f = c .before .before .before .before .before .before .before .before in
+    let f = fed (c .before .before) in
     fed-long (f .feed .ensures) ∙ head f .loop .inv .1
 
 returns : tie.Need-returns Inv-loop μ-loop
@@ -99,19 +103,19 @@ part-after-feeding-start : tie.Need-part-after-feeding-start Inv-loop μ-loop
 part-after-feeding-start c = search needs
 
 part-after-feeding-end : tie.Need-part-after-feeding-end Inv-loop μ-loop
-part-after-feeding-end c = omega (arith, used-within (c .before .before .before .before .before .before .before .before))
+part-after-feeding-end c = omega (arith, used-within (fed (c .before .before)))
 
 after-feeding-requires : tie.Need-after-feeding-requires Inv-loop μ-loop
 after-feeding-requires c κs = search needs
 
 loop-less : tie.Need-loop-less Inv-loop μ-loop
 loop-less c =
-    let f = c .before .before .before .before .before .before .before .before .before .before in
+    let f = fed (c .before .before .before .before) in
     omega (arith, used-some f, used-within f, f .before .before .before .loop-test .taken)
 
 loop-again : tie.Need-loop-again Inv-loop μ-loop
 loop-again c =
-    let f = c .before .before .before .before .before .before .before .before .before .before in
+    let f = fed (c .before .before .before .before) in
     (used-within f, fed-long (f .feed .ensures) ∙ head f .loop .inv .1)
 
 next-of-requires : tie.Need-next-of-requires Inv-loop μ-loop
