@@ -1,4 +1,4 @@
--- So many bytes hold each answer of the bench's lists, and no answer has the number of a short buffer.
+-- So many bytes hold each answer of the bench's lists, no answer has the number of a short buffer, 14 alone carries a number, and the three faults were 10.
 use mathlib.Core.Path.{_≡_, refl, sym}
 use mathlib.Core.Bool.{Bool, true, false}
 use mathlib.Core.List.{List, _++_}
@@ -43,12 +43,13 @@ use Rattle.row.specs.Places.{givenAt}
 use Rattle.row.specs.Records.{recordFrom}
 use Rattle.row.specs.Resistances.{resistancesFrom}
 use Rattle.line.specs.Writing.{commaed}
-use Rattle.line.specs.Promised.{AnswersFit, NumbersFew}
-use Rattle.line.proofs.Unique.{Small, answers-fit, numbers-few}
+use Rattle.line.specs.Promised.{AnswersFit, NeverShort, OthersBlank, FieldNamed, WereTens, HadAnswer}
+use Rattle.line.proofs.Unique.{Small, answers-fit, never-short, others-blank, field-named, were-tens, had-answer}
 use Rattle.line.proofs.Short.{names-short, name-short, letter-short, signed-few, small-row}
 use Rattle.bench.specs.Certificates.{placesWritten, records, resistances}
 use Rattle.bench.specs.Forward.{steps}
 use Rattle.bench.specs.Tolerances.{resultWord, tolerances}
+use Rattle.bench.proofs.Unique.{record-row, resistances-row, step-row, test-row}
 use Rattle.bench.specs.Rooms.{certificateRoom, ratioRoom, resultRoom}
 
 -- how many bytes the own columns of an answer take, a comma after each counted
@@ -80,13 +81,23 @@ small-record row =
     let cells = recordFrom row in
     small-row records placesBytes noPlaces (subrangeNamed (cells .subrange .0)) (λ s. recordOf s cells) (λ s. refl) (omega arith) (λ s n a. places-short s cells a)
 
-pub records-few : NumbersFew records
-unfolding decimal
-records-few = numbers-few records placesBytes small-record (names-short _ name-short _ _ _ _) (omega arith)
+pub records-never-short : NeverShort records
+records-never-short = never-short records placesBytes small-record
 
 pub records-fit : AnswersFit records certificateRoom
-unfolding decimal
-records-fit = answers-fit records placesBytes small-record (names-short _ name-short _ _ _ _) (omega arith)
+records-fit = answers-fit records placesBytes small-record (names-short _ name-short _ _ _ _) (omega arith) (omega arith)
+
+pub records-blank : OthersBlank records
+records-blank = others-blank records placesBytes small-record
+
+pub records-field : FieldNamed records
+records-field = field-named records placesBytes small-record
+
+pub records-were-tens : WereTens records
+records-were-tens = were-tens records placesBytes small-record record-row
+
+pub records-had-answer : HadAnswer records
+records-had-answer = had-answer records placesBytes small-record
 
 small-resistances : (row : List Value) (o : Outcome LawAndPlaces) → Follows (resistances .rule row) o → Small resistances placesBytes o
 small-resistances row =
@@ -94,13 +105,23 @@ small-resistances row =
     small-row resistances placesBytes noPlaces (subrangeNamed (cells .subrange .0)) (λ s. resistancesOf s cells) (λ s. refl) (omega arith)
     (λ s n a e. places-short s (ratiosOf cells) a (passed (outside cells) 1 (recordOf s (ratiosOf cells) .tests) (omega arith) e .1))
 
-pub resistances-few : NumbersFew resistances
-unfolding decimal
-resistances-few = numbers-few resistances placesBytes small-resistances (names-short _ name-short _ _ _ _) (omega arith)
+pub resistances-never-short : NeverShort resistances
+resistances-never-short = never-short resistances placesBytes small-resistances
 
 pub resistances-fit : AnswersFit resistances certificateRoom
-unfolding decimal
-resistances-fit = answers-fit resistances placesBytes small-resistances (names-short _ name-short _ _ _ _) (omega arith)
+resistances-fit = answers-fit resistances placesBytes small-resistances (names-short _ name-short _ _ _ _) (omega arith) (omega arith)
+
+pub resistances-blank : OthersBlank resistances
+resistances-blank = others-blank resistances placesBytes small-resistances
+
+pub resistances-field : FieldNamed resistances
+resistances-field = field-named resistances placesBytes small-resistances
+
+pub resistances-were-tens : WereTens resistances
+resistances-were-tens = were-tens resistances placesBytes small-resistances resistances-row
+
+pub resistances-had-answer : HadAnswer resistances
+resistances-had-answer = had-answer resistances placesBytes small-resistances
 
 -- ---- steps taken forward
 ratio-short : (given : Given) (step : ℤ) (law : Law) (a : LawAndRatio) → numberGiven (forwardCertificate (certificateOf law given) step .tests) ≡ 0
@@ -116,13 +137,23 @@ small-step row =
     small-row steps ratioBytes noRatio (lawNamed (given .law .0)) (λ law. forwardCertificate (certificateOf law given) (integerAt 2 row)) (λ law. refl) (omega arith)
     (λ law n. ratio-short given (integerAt 2 row) law)
 
-pub steps-few : NumbersFew steps
-unfolding decimal
-steps-few = numbers-few steps ratioBytes small-step (names-short _ name-short _ _ _ _) (omega arith)
+pub steps-never-short : NeverShort steps
+steps-never-short = never-short steps ratioBytes small-step
 
 pub steps-fit : AnswersFit steps ratioRoom
-unfolding decimal
-steps-fit = answers-fit steps ratioBytes small-step (names-short _ name-short _ _ _ _) (omega arith)
+steps-fit = answers-fit steps ratioBytes small-step (names-short _ name-short _ _ _ _) (omega arith) (omega arith)
+
+pub steps-blank : OthersBlank steps
+steps-blank = others-blank steps ratioBytes small-step
+
+pub steps-field : FieldNamed steps
+steps-field = field-named steps ratioBytes small-step
+
+pub steps-were-tens : WereTens steps
+steps-were-tens = were-tens steps ratioBytes small-step step-row
+
+pub steps-had-answer : HadAnswer steps
+steps-had-answer = had-answer steps ratioBytes small-step
 
 -- ---- tolerance tests
 -- no class goes past the curve
@@ -156,10 +187,20 @@ small-test row =
     small-row tolerances resultBytes noResult (classNamed letter) (λ class. testByClass class (integerAt 2 row) (countAt 3 row) (countAt 4 row)) (λ class. refl) (omega arith)
     (λ class n. result-short (integerAt 2 row) (countAt 3 row) (countAt 4 row) class (class-top letter class n))
 
-pub results-few : NumbersFew tolerances
-unfolding decimal
-results-few = numbers-few tolerances resultBytes small-test (names-short _ letter-short _ _ _ _) (omega arith)
+pub results-never-short : NeverShort tolerances
+results-never-short = never-short tolerances resultBytes small-test
 
 pub results-fit : AnswersFit tolerances resultRoom
-unfolding decimal
-results-fit = answers-fit tolerances resultBytes small-test (names-short _ letter-short _ _ _ _) (omega arith)
+results-fit = answers-fit tolerances resultBytes small-test (names-short _ letter-short _ _ _ _) (omega arith) (omega arith)
+
+pub results-blank : OthersBlank tolerances
+results-blank = others-blank tolerances resultBytes small-test
+
+pub results-field : FieldNamed tolerances
+results-field = field-named tolerances resultBytes small-test
+
+pub results-were-tens : WereTens tolerances
+results-were-tens = were-tens tolerances resultBytes small-test test-row
+
+pub results-had-answer : HadAnswer tolerances
+results-had-answer = had-answer tolerances resultBytes small-test

@@ -19,7 +19,7 @@ use Rattle.bench.specs.Forward.{steps}
 use Rattle.bench.specs.Tolerances.{tolerances}
 
 -- ---- a record of ratios
-record-row : (row : List Value) (o o′ : Outcome LawAndPlaces) → Follows (records .rule row) o → Follows (records .rule row) o′ → o ≡ o′
+pub record-row : (row : List Value) (o o′ : Outcome LawAndPlaces) → Follows (records .rule row) o → Follows (records .rule row) o′ → o ≡ o′
 record-row row = record-unique (recordFrom row)
 
 pub one-record : OneAnswer records
@@ -29,7 +29,7 @@ pub one-record-into : OneAnswerInto records
 one-record-into = one-answer-into records record-row
 
 -- ---- a record of resistances
-resistances-row : (row : List Value) (o o′ : Outcome LawAndPlaces) → Follows (resistances .rule row) o → Follows (resistances .rule row) o′ → o ≡ o′
+pub resistances-row : (row : List Value) (o o′ : Outcome LawAndPlaces) → Follows (resistances .rule row) o → Follows (resistances .rule row) o′ → o ≡ o′
 resistances-row row = resistances-unique (resistancesFrom row)
 
 pub one-resistances : OneAnswer resistances
@@ -39,7 +39,7 @@ pub one-resistances-into : OneAnswerInto resistances
 one-resistances-into = one-answer-into resistances resistances-row
 
 -- ---- a step taken forward
-step-row : (row : List Value) (o o′ : Outcome LawAndRatio) → Follows (steps .rule row) o → Follows (steps .rule row) o′ → o ≡ o′
+pub step-row : (row : List Value) (o o′ : Outcome LawAndRatio) → Follows (steps .rule row) o → Follows (steps .rule row) o′ → o ≡ o′
 step-row row = ratio-unique (givenAt 3 row) (integerAt 2 row)
 
 pub one-step : OneAnswer steps
@@ -49,7 +49,7 @@ pub one-step-into : OneAnswerInto steps
 one-step-into = one-answer-into steps step-row
 
 -- ---- a tolerance test
-test-row : (row : List Value) (o o′ : Outcome Result) → Follows (tolerances .rule row) o → Follows (tolerances .rule row) o′ → o ≡ o′
+pub test-row : (row : List Value) (o o′ : Outcome Result) → Follows (tolerances .rule row) o → Follows (tolerances .rule row) o′ → o ≡ o′
 test-row row = test-unique (letterAt 1 row) (integerAt 2 row) (countAt 3 row) (countAt 4 row)
 
 pub one-result : OneAnswer tolerances

@@ -18,7 +18,6 @@ use certificate::CertificateAnswer;
 use deviation::Places;
 use line::LineAnswer;
 use line::Placing;
-use quantity::Refusal;
 use row::RecordParsed;
 use row::RecordRow;
 use row::ResistancesParsed;
@@ -85,11 +84,7 @@ pub fn place_record(line: &[u8], out: &mut [u8]) -> Placing
 {
     match row::parse_record(line) {
         RecordParsed::Row(row) => answer_ratios(line, row, out),
-        RecordParsed::IllFormed => line::place(
-            Refusal::IllFormed.number(),
-            b"?,?,,,,,,10\r\n",
-            out,
-        ),
+        RecordParsed::NoRow(fault) => line::place_fault(fault, b",,,,,", out),
     }
 }
 
@@ -116,11 +111,7 @@ pub fn place_resistances(line: &[u8], out: &mut [u8]) -> Placing
 {
     match row::parse_resistances(line) {
         ResistancesParsed::Row(row) => answer_pairs(line, row, out),
-        ResistancesParsed::IllFormed => line::place(
-            Refusal::IllFormed.number(),
-            b"?,?,,,,,,10\r\n",
-            out,
-        ),
+        ResistancesParsed::NoRow(fault) => line::place_fault(fault, b",,,,,", out),
     }
 }
 

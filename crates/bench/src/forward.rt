@@ -16,7 +16,6 @@ use crate::scratch::scratch;
 use line::LineAnswer;
 use line::Placing;
 use quantity::Ratio;
-use quantity::Refusal;
 use reading::ForwardAnswer;
 use row::ForwardParsed;
 use row::ForwardRow;
@@ -56,7 +55,7 @@ pub fn place_forward(line: &[u8], out: &mut [u8]) -> Placing
 {
     match row::parse_forward(line) {
         ForwardParsed::Row(row) => answer_row(line, row, out),
-        ForwardParsed::IllFormed => line::place(Refusal::IllFormed.number(), b"?,?,,10\r\n", out),
+        ForwardParsed::NoRow(fault) => line::place_fault(fault, b",", out),
     }
 }
 

@@ -15,7 +15,6 @@ ghost use Rattle.bench.specs.Rooms.{madeIn};
 use crate::scratch::scratch;
 use line::LineAnswer;
 use line::Placing;
-use quantity::Refusal;
 use reading::ToleranceAnswer;
 use row::ToleranceParsed;
 use row::ToleranceRow;
@@ -71,11 +70,7 @@ pub fn place_tolerance(line: &[u8], out: &mut [u8]) -> Placing
 {
     match row::parse_tolerance(line) {
         ToleranceParsed::Row(row) => answer_row(line, row, out),
-        ToleranceParsed::IllFormed => line::place(
-            Refusal::IllFormed.number(),
-            b"?,?,,,10\r\n",
-            out,
-        ),
+        ToleranceParsed::NoRow(fault) => line::place_fault(fault, b",,", out),
     }
 }
 

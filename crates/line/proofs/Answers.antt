@@ -1,22 +1,26 @@
 -- What is written for a row, answered or refused, is its answer: for lists of every kind.
 use mathlib.Core.Path.{_≡_, refl, sym, ap, _∙_, subst}
-use mathlib.Core.Bool.{true, false}
+use mathlib.Core.Bool.{true}
 use mathlib.Core.List.{List, [], _∷_, _++_, append-assoc, append-nil}
+use mathlib.Core.Option.{some}
 use Prim.Native.Nat.{ℕ}
+use Prim.Native.String.{String}
 use lib.ListN.{take}
 use Rattle.whole.specs.Text.{ascii}
 use Rattle.quantity.specs.declared.refusal.Refusal.{Refusal}
-use Rattle.quantity.specs.declared.refusal.Refusal.the-variants.{IllFormed}
 use Rattle.quantity.specs.Refusals.{numberOf}
 use Rattle.quantity.specs.Outcomes.{Outcome, answered, refused, Follows}
 use Rattle.quantity.proofs.Outcomes.{some-number}
 use Rattle.text.specs.Joined.{joined}
 use Rattle.text.specs.Decimal.{decimal}
-use Rattle.text.specs.Columns.{wellFormed, values, fieldAt}
+use Rattle.text.specs.declared.columns.Fault.{Fault}
+use Rattle.text.specs.declared.columns.Fault.the-variants.{TooLong, Miscounted, Broken}
+use Rattle.text.specs.Columns.{wellFormed, faultOf, values, fieldAt}
+use Rattle.text.proofs.Faults.{no-fault}
 use Rattle.text.proofs.Names.{Repeated}
 use Rattle.line.specs.declared.lent.Placing.{Placing}
-use Rattle.line.specs.Kinds.{Kind, lineEnd, answerLine, illFormedLine, blanks, ownColumns}
-use Rattle.line.specs.Writing.{commaed, refusedText}
+use Rattle.line.specs.Kinds.{Kind, lineEnd, answerLine, blanks, ownColumns, refusalOf, faultColumns, namelessLine, faultLine}
+use Rattle.line.specs.Writing.{commaed, refusedText, faultNames, faultText}
 use Rattle.line.specs.Lent.{PlacedAs, AnsweredAs}
 
 -- texts joined by commas, the last one aside, have a comma after each
@@ -44,7 +48,7 @@ module _ (kind : Kind) (line out out′ : List ℕ) (x : Placing) (w : wellForme
       → PlacedAs (o .code) (take n line ++ commaed (ownColumns kind o) ++ decimal (o .code) ++ lineEnd) out out′ x → AnsweredAs kind line out out′ x
   placed-row o r p =
       let text = ap (λ (l : List ℕ). l ++ commaed (ownColumns kind o) ++ decimal (o .code) ++ lineEnd) (names .first) ∙ answer-text (fieldAt 0 line) (fieldAt 1 line) (ownColumns kind o) (o .code) in
-      (o .code, answerLine (fieldAt 0 line) (fieldAt 1 line) (ownColumns kind o) (o .code), rw w (o, r, refl, refl), subst (λ (t : List ℕ). PlacedAs (o .code) t out out′ x) text p)
+      (o .code, answerLine (fieldAt 0 line) (fieldAt 1 line) (ownColumns kind o) (o .code), rw (no-fault (kind .columns) line w) (o, r, refl, refl), subst (λ (t : List ℕ). PlacedAs (o .code) t out out′ x) text p)
 
   pub placed-answered : (a : kind .Answer) → Follows (kind .rule (values (kind .columns) line)) (answered a)
       → PlacedAs 0 (take n line ++ commaed (kind .written a) ++ ascii "0\r\n") out out′ x → AnsweredAs kind line out out′ x
@@ -54,7 +58,19 @@ module _ (kind : Kind) (line out out′ : List ℕ) (x : Placing) (w : wellForme
       → PlacedAs (numberOf why) (refusedText (take n line) (commaed (blanks (kind .own))) (numberOf why)) out out′ x → AnsweredAs kind line out out′ x
   placed-refused zeros why r p = placed-row (refused zeros (numberOf why)) r (rw (some-number why) p)
 
--- a line that is no row
-pub placed-ill-formed : (kind : Kind) (line out out′ : List ℕ) (x : Placing) (number : ℕ) → wellFormed (kind .columns) line ≡ false → number ≡ numberOf IllFormed
-    → PlacedAs number (illFormedLine kind) out out′ x → AnsweredAs kind line out out′ x
-placed-ill-formed kind line out out′ x number w n p = (number, illFormedLine kind, rw w (n, refl), p)
+-- ---- a line that is no row
+-- the names of a fault's answer, and then a comma for each own column: the first own column stands before the first comma
+fault-text : (title : String) (titles : List String) (fault : Fault) (why : Refusal)
+    → refusedText (faultNames fault) (commaed (blanks (title ∷ titles))) (numberOf why) ≡ namelessLine (faultColumns (title ∷ titles) fault) why
+fault-text title titles TooLong why = answer-text (ascii "?") (ascii "?") (blanks (title ∷ titles)) (numberOf why)
+fault-text title titles Miscounted why = answer-text (ascii "?") (ascii "?") (blanks (title ∷ titles)) (numberOf why)
+fault-text title titles (Broken n) why =
+    ap (λ (l : List ℕ). l ++ decimal (numberOf why) ++ lineEnd)
+    (append-assoc (ascii "?,?,") (decimal n) (commaed (blanks (title ∷ titles))) ∙ ap (λ (l : List ℕ). ascii "?,?," ++ l) (sym (append-assoc (decimal n) (ascii ",") (commaed (blanks titles)))))
+    ∙ answer-text (ascii "?") (ascii "?") (decimal n ∷ blanks titles) (numberOf why)
+
+pub placed-fault : (kind : Kind) (title : String) (titles : List String) → kind .own ≡ title ∷ titles → (line out out′ : List ℕ) (x : Placing) (fault : Fault) → faultOf (kind .columns) line ≡ some fault
+    → PlacedAs (numberOf (refusalOf fault)) (faultText fault (commaed (blanks (kind .own)))) out out′ x → AnsweredAs kind line out out′ x
+placed-fault kind title titles own line out out′ x fault found p =
+    let text : faultText fault (commaed (blanks (kind .own))) ≡ faultLine kind fault = rw own (fault-text title titles fault (refusalOf fault)) in
+    (numberOf (refusalOf fault), faultLine kind fault, rw found (refl, refl), subst (λ (t : List ℕ). PlacedAs (numberOf (refusalOf fault)) t out out′ x) text p)

@@ -14,7 +14,9 @@ use Rattle.whole.specs.Choice.{if_then_else_}
 use Rattle.quantity.specs.Outcomes.{Outcome, numberGiven, Rule, Follows, ifNamed}
 use Rattle.quantity.proofs.Outcomes.{answer-follows, code-is-given, most, number-most}
 use Rattle.text.specs.Decimal.{signedDecimal}
-use Rattle.text.specs.Columns.{Column, Holds, _holds_, id, ruleOf, idByte, longestId, longestName, wellFormed, fieldAt}
+use Rattle.text.specs.declared.columns.Holds.{Holds}
+use Rattle.text.specs.declared.columns.Holds.the-variants.{Id, Name, Letter}
+use Rattle.text.specs.Columns.{Column, _holds_, ruleOf, idByte, longestId, longestName, wellFormed, fieldAt}
 use Rattle.text.specs.Fields as fields
 use Rattle.text.proofs.Decimals.{few-digits}
 use Rattle.text.proofs.Names.{named, sized-short}
@@ -24,15 +26,15 @@ use Rattle.line.proofs.Unique.{Small}
 
 -- an id, and a second field of no more bytes than a name
 pub names-short : (what : Holds) → ((s : List ℕ) → ruleOf what s ≡ true → length s ≤ longestName) → (t t′ : String) (c : Column) (cs : List Column) (line : List ℕ)
-    → wellFormed (t holds id ∷ t′ holds what ∷ c ∷ cs) line ≡ true → length (fieldAt 0 line) + length (fieldAt 1 line) ≤ 24
+    → wellFormed (t holds Id ∷ t′ holds what ∷ c ∷ cs) line ≡ true → length (fieldAt 0 line) + length (fieldAt 1 line) ≤ 24
 names-short what short t t′ c cs line w =
-    let n = named (t holds id) (t′ holds what) c cs line w in
+    let n = named (t holds Id) (t′ holds what) c cs line w in
     omega (arith, sized-short longestId idByte (fieldAt 0 line) (n .rule-one), short (fieldAt 1 line) (n .rule-two))
 
-pub name-short : (s : List ℕ) → ruleOf Holds.name s ≡ true → length s ≤ longestName
+pub name-short : (s : List ℕ) → ruleOf Name s ≡ true → length s ≤ longestName
 name-short s e = sized-short longestName fields.small s e
 
-pub letter-short : (s : List ℕ) → ruleOf Holds.oneLetter s ≡ true → length s ≤ longestName
+pub letter-short : (s : List ℕ) → ruleOf Letter s ≡ true → length s ≤ longestName
 letter-short s e = omega (arith, sized-short 1 fields.letter s e)
 
 -- a number of either sign: its digits and a minus

@@ -1,25 +1,31 @@
--- A line has one answer, and that is short and has a number of the table below that of a short buffer: for lists of every kind.
+-- A line has one answer, which is short, never has the number of a short buffer, and is what it was before request 2 unless that was 10: for lists of every kind.
 use mathlib.Core.Path.{_≡_, refl, sym, ap, _∙_, subst}
-use mathlib.Core.Bool.{Bool, true, false}
-use mathlib.Core.List.{List, _++_}
-use Prim.Native.Nat.{ℕ, _+_, _≤_, _<_}
+use mathlib.Core.Bool.{Bool, true, false, true≢false}
+use mathlib.Core.List.{List, [], _∷_, _++_}
+use mathlib.Core.Option.{Option, none, some}
+use Prim.Native.Nat.{ℕ, _+_, _≤_}
+use Prim.Native.String.{String}
 use native.Mathlib.Omega.{arith}
-use lib.Dec.{leb}
+use lib.Dec.{leb, eqb}
 use lib.ListN.{length, length-append}
-use Rattle.whole.specs.Choice.{if_then_else_}
+use borrow.Author.Tests.{eq-eqb, ne-eqb}
 use Rattle.whole.specs.Text.{ascii}
-use Rattle.whole.proofs.Choice.{if-cases, if-both}
+use Rattle.whole.proofs.Choice.{if-both}
 use Rattle.quantity.specs.Outcomes.{Outcome, Follows}
 use Rattle.quantity.specs.Refusals.{numberOf}
-use Rattle.quantity.specs.declared.refusal.Refusal.the-variants.{IllFormed, BufferShort}
+use Rattle.quantity.specs.declared.refusal.Refusal.the-variants.{FieldBroken}
+use Rattle.text.specs.declared.columns.Fault.{Fault}
+use Rattle.text.specs.declared.columns.Fault.the-variants.{TooLong, Miscounted, Broken}
 use Rattle.text.specs.Decimal.{decimal}
-use Rattle.text.specs.Columns.{Value, wellFormed, values, fieldAt}
+use Rattle.text.specs.Columns.{Column, Value, faultOf, wellFormed, values, fieldAt}
+use Rattle.text.specs.Promised.{FirstToBreak}
 use Rattle.text.proofs.Decimals.{few-digits}
+use Rattle.text.proofs.Faults.{first-named, a-row, some-fault}
 use Rattle.line.specs.declared.lent.LineAnswer.{LineAnswer}
-use Rattle.line.specs.Kinds.{Kind, lineEnd, RowAnswered, answerLine, ownColumns, illFormedLine}
+use Rattle.line.specs.Kinds.{Kind, lineEnd, RowAnswered, AnsweredBy, answerLine, blanks, ownColumns, refusalOf, faultColumns, namelessLine}
 use Rattle.line.specs.Writing.{commaed}
 use Rattle.line.specs.Lent.{Placed}
-use Rattle.line.specs.Promised.{OneAnswer, OneAnswerInto, AnswersFit, NumbersFew}
+use Rattle.line.specs.Promised.{OneAnswer, OneAnswerInto, AnswersFit, NeverShort, OthersBlank, FieldNamed, AnsweredBefore, isFault, WereTens, HadAnswer}
 use Rattle.line.proofs.Answers.{answer-text}
 
 -- ---- in a lent buffer
@@ -35,7 +41,11 @@ module _ (kind : Kind) (one : (row : List Value) (o o′ : Outcome (kind .Answer
       (e ∙ ap (λ (o : Outcome (kind .Answer)). o .code) k ∙ sym e′, f ∙ ap (λ (o : Outcome (kind .Answer)). answerLine (fieldAt 0 line) (fieldAt 1 line) (ownColumns kind o) (o .code)) k ∙ sym f′)
 
   pub one-answer : OneAnswer kind
-  one-answer line n n′ t t′ h k = if-both (wellFormed (kind .columns) line) h k (row-answer line n n′ t t′) (λ x y. (x .0 ∙ sym (y .0), x .1 ∙ sym (y .1)))
+  one-answer line n n′ t t′ = by (faultOf (kind .columns) line)
+    where
+      by : (found : Option Fault) → AnsweredBy kind line found n t → AnsweredBy kind line found n′ t′ → (n ≡ n′) × (t ≡ t′)
+      by none h k = row-answer line n n′ t t′ h k
+      by (some fault) h k = (h .0 ∙ sym (k .0), h .1 ∙ sym (k .1))
 
   pub one-answer-into : OneAnswerInto kind
   one-answer-into line out out′ out″ x y (n, t, a, p) (n′, t′, b, q) =
@@ -48,26 +58,114 @@ pub record Small (kind : Kind) (bytes : ℕ) (o : Outcome (kind .Answer)) : Type
   pub code : o .code ≤ 9
   pub own : length (commaed (ownColumns kind o)) ≤ bytes
 
-module _ (kind : Kind) (bytes : ℕ) (small : (row : List Value) (o : Outcome (kind .Answer)) → Follows (kind .rule row) o → Small kind bytes o)
-    (short : (line : List ℕ) → wellFormed (kind .columns) line ≡ true → length (fieldAt 0 line) + length (fieldAt 1 line) ≤ 24)
-    (ill-short : length (illFormedLine kind) ≤ 29 + bytes) where
-  pub numbers-few : NumbersFew kind
-  numbers-few line n t h = if-cases (wellFormed (kind .columns) line) h row (λ x. omega (arith, x .0))
-    where
-      row : RowAnswered kind line n t → n < numberOf BufferShort
-      row (o, h, e, f) = omega (arith, small (values (kind .columns) line) o h .code, e)
+-- the own columns of a fault have a number of at most two digits more than empty ones
+fault-columns : (titles : List String) (fault : Fault) → ((n : ℕ) → fault ≡ Broken n → n ≤ 99) → length (commaed (faultColumns titles fault)) ≤ length (commaed (blanks titles)) + 2
+fault-columns titles TooLong few = omega arith
+fault-columns titles Miscounted few = omega arith
+fault-columns [] (Broken n) few = omega arith
+fault-columns (title ∷ titles) (Broken n) few =
+    let digits : length (decimal n) ≤ 2 = few-digits 1 n (omega (arith, few n refl)) in
+    let own : length (commaed (decimal n ∷ blanks titles)) ≡ length (decimal n) + 1 + length (commaed (blanks titles)) = simp length-append (omega arith) in
+    omega (arith, own)
 
-  line-few : (first second : List ℕ) (o : Outcome (kind .Answer)) → length first + length second ≤ 24 → Small kind bytes o
-      → length (answerLine first second (ownColumns kind o) (o .code)) ≤ 29 + bytes
-  line-few first second o h s =
-      let code : length (decimal (o .code)) ≤ 1 = few-digits 0 (o .code) (omega (arith, s .code)) in
-      let own = commaed (ownColumns kind o) in
-      let parts : length ((first ++ ascii "," ++ second ++ ascii ",") ++ own ++ decimal (o .code) ++ lineEnd) ≡ length first + 1 + length second + 1 + length own + length (decimal (o .code)) + 2 = simp length-append (omega arith) in
-      omega (arith, ap length (answer-text first second (ownColumns kind o) (o .code)), parts, s .own)
+fault-number : (fault : Fault) → numberOf (refusalOf fault) ≤ 99
+fault-number TooLong = omega arith
+fault-number Miscounted = omega arith
+fault-number (Broken n) = omega arith
 
-  pub answers-fit : AnswersFit kind (29 + bytes)
-  answers-fit line n t h = by (wellFormed (kind .columns) line) refl h
+-- a fault that is found names a column, and no list has many
+found-few : (columns : List Column) → length columns ≤ 99 → (line : List ℕ) (fault : Fault) → faultOf columns line ≡ some fault → (n : ℕ) → fault ≡ Broken n → n ≤ 99
+found-few columns few line fault found n is = omega (arith, first-named columns line n (found ∙ ap some is) .to-last)
+
+module _ (kind : Kind) (bytes : ℕ) (small : (row : List Value) (o : Outcome (kind .Answer)) → Follows (kind .rule row) o → Small kind bytes o) where
+  row-few : (line : List ℕ) (n : ℕ) (t : List ℕ) → RowAnswered kind line n t → n ≤ 9
+  row-few line n t (o, h, e, f) = omega (arith, small (values (kind .columns) line) o h .code, e)
+
+  pub never-short : NeverShort kind
+  never-short line n t h e = by (faultOf (kind .columns) line) h
     where
-      by : (u : Bool) → wellFormed (kind .columns) line ≡ u → (if u then RowAnswered kind line n t else (n ≡ numberOf IllFormed) × (t ≡ illFormedLine kind)) → length t ≤ 29 + bytes
-      by true e (o, h, i, f) = rw f (line-few (fieldAt 0 line) (fieldAt 1 line) o (short line e) (small (values (kind .columns) line) o h))
-      by false e (i, f) = rw f ill-short
+      by : (found : Option Fault) → AnsweredBy kind line found n t → ⊥
+      by none h = omega (arith, row-few line n t h, e)
+      by (some TooLong) h = omega (arith, h .0, e)
+      by (some Miscounted) h = omega (arith, h .0, e)
+      by (some (Broken field)) h = omega (arith, h .0, e)
+
+  -- ---- how many bytes
+  line-few : (first second : List ℕ) (own : List (List ℕ)) (code digits : ℕ) → length (decimal code) ≤ digits
+      → length (answerLine first second own code) ≤ length first + length second + 4 + length (commaed own) + digits
+  line-few first second own code digits h =
+      let parts : length ((first ++ ascii "," ++ second ++ ascii ",") ++ commaed own ++ decimal code ++ lineEnd) ≡ length first + 1 + length second + 1 + length (commaed own) + length (decimal code) + 2 = simp length-append (omega arith) in
+      omega (arith, ap length (answer-text first second own code), parts)
+
+  module _ (short : (line : List ℕ) → wellFormed (kind .columns) line ≡ true → length (fieldAt 0 line) + length (fieldAt 1 line) ≤ 24)
+      (blank : length (commaed (blanks (kind .own))) ≤ bytes) (few : length (kind .columns) ≤ 99) where
+    pub answers-fit : AnswersFit kind (29 + bytes)
+    answers-fit line n t = by (faultOf (kind .columns) line) refl
+      where
+        by : (found : Option Fault) → faultOf (kind .columns) line ≡ found → AnsweredBy kind line found n t → length t ≤ 29 + bytes
+        by none e (o, h, i, f) =
+            let s = small (values (kind .columns) line) o h in
+            rw f (omega (arith, line-few (fieldAt 0 line) (fieldAt 1 line) (ownColumns kind o) (o .code) 1 (few-digits 0 (o .code) (omega (arith, s .code))), s .own, short line (a-row (kind .columns) line e)))
+        by (some fault) e (i, f) =
+            let number = numberOf (refusalOf fault) in
+            let own = faultColumns (kind .own) fault in
+            rw f (omega (
+              arith,
+              line-few (ascii "?") (ascii "?") own number 2 (few-digits 1 number (omega (arith, fault-number fault))),
+              fault-columns (kind .own) fault (found-few (kind .columns) few line fault e),
+              blank,
+            ))
+
+  -- ---- what a refusal carries
+  pub others-blank : OthersBlank kind
+  others-blank line n t h not-read not-14 = by (faultOf (kind .columns) line) h
+    where
+      by : (found : Option Fault) → AnsweredBy kind line found n t → (first : List ℕ) × (second : List ℕ) × (t ≡ answerLine first second (blanks (kind .own)) n)
+      by none (o, h, e, f) =
+          let first = fieldAt 0 line in
+          let second = fieldAt 1 line in
+          let own : ownColumns kind o ≡ blanks (kind .own) = rw (ne-eqb (o .code) 0 (λ z. not-read (e ∙ z))) in
+          (first, second, f ∙ ap (λ (own : List (List ℕ)). answerLine first second own (o .code)) own ∙ ap (answerLine first second (blanks (kind .own))) (sym e))
+      by (some TooLong) (e, f) = (ascii "?", ascii "?", rw e f)
+      by (some Miscounted) (e, f) = (ascii "?", ascii "?", rw e f)
+      by (some (Broken field)) (e, f) = absurd (not-14 e)
+
+  pub field-named : FieldNamed kind
+  field-named line t = by (faultOf (kind .columns) line) refl
+    where
+      by : (found : Option Fault) → faultOf (kind .columns) line ≡ found → AnsweredBy kind line found (numberOf FieldBroken) t
+          → (field : ℕ) × FirstToBreak (kind .columns) line field × (t ≡ namelessLine (faultColumns (kind .own) (Broken field)) FieldBroken)
+      by none e h = absurd (omega (arith, row-few line (numberOf FieldBroken) t h))
+      by (some TooLong) e (i, f) = absurd (omega (arith, i))
+      by (some Miscounted) e (i, f) = absurd (omega (arith, i))
+      by (some (Broken field)) e (i, f) = (field, first-named (kind .columns) line field e, f)
+
+  -- ---- before request 2
+  pub had-answer : HadAnswer kind
+  had-answer line n t = by (faultOf (kind .columns) line) refl
+    where
+      by : (found : Option Fault) → faultOf (kind .columns) line ≡ found → AnsweredBy kind line found n t → (before : ℕ) × (textBefore : List ℕ) × AnsweredBefore kind line before textBefore
+      by none e h = (n, t, rw (a-row (kind .columns) line e) h)
+      by (some fault) e h = (10, answerLine (ascii "?") (ascii "?") (blanks (kind .own)) 10, rw (some-fault (kind .columns) line fault e) (refl, refl))
+
+  module _ (one : (row : List Value) (o o′ : Outcome (kind .Answer)) → Follows (kind .rule row) o → Follows (kind .rule row) o′ → o ≡ o′) where
+    few-no-fault : (n : ℕ) → n ≤ 9 → isFault n ≡ false
+    few-no-fault n h = rw (ne-eqb n 12 (λ e. omega arith), ne-eqb n 13 (λ e. omega arith), ne-eqb n 14 (λ e. omega arith))
+
+    is-fault : (fault : Fault) (n : ℕ) → n ≡ numberOf (refusalOf fault) → isFault n ≡ true
+    is-fault TooLong n e = rw e
+    is-fault Miscounted n e = rw e
+    is-fault (Broken field) n e = rw e
+
+    pub were-tens : WereTens kind
+    were-tens line n before t textBefore h k = by (faultOf (kind .columns) line) refl h
+      where
+        by : (found : Option Fault) → faultOf (kind .columns) line ≡ found → AnsweredBy kind line found n t
+            → (isFault n ≡ eqb before 10) × (isFault n ≡ false → (n ≡ before) × (t ≡ textBefore))
+        by none e h =
+            let row : RowAnswered kind line before textBefore = rw (a-row (kind .columns) line e) at k in
+            let same = row-answer kind one line n before t textBefore h row in
+            (few-no-fault n (row-few line n t h) ∙ sym (ne-eqb before 10 (λ z. omega (arith, z, row-few line before textBefore row))), λ z. same)
+        by (some fault) e h =
+            let ten : (before ≡ 10) × (textBefore ≡ answerLine (ascii "?") (ascii "?") (blanks (kind .own)) 10) = rw (some-fault (kind .columns) line fault e) at k in
+            (is-fault fault n (h .0) ∙ sym (eq-eqb before 10 (ten .0)), λ z. absurd (true≢false (sym (is-fault fault n (h .0)) ∙ z)))

@@ -1,17 +1,21 @@
 -- A list has a kind, and a line of it an answer.
 use mathlib.Core.Path.{_≡_}
 use mathlib.Core.List.{List, [], _∷_, _++_, map}
+use mathlib.Core.Option.{Option, none, some}
 use Prim.Native.Nat.{ℕ}
 use Prim.Native.String.{String}
 use lib.Dec.{eqb}
 use Rattle.whole.specs.Choice.{if_then_else_}
 use Rattle.whole.specs.Text.{ascii}
 use Rattle.quantity.specs.Refusals.{numberOf}
-use Rattle.quantity.specs.declared.refusal.Refusal.the-variants.{IllFormed}
+use Rattle.quantity.specs.declared.refusal.Refusal.{Refusal}
+use Rattle.quantity.specs.declared.refusal.Refusal.the-variants.{WrongHeader, LineTooLong, FieldsMiscounted, FieldBroken}
 use Rattle.quantity.specs.Outcomes.{Outcome, Rule, Follows}
 use Rattle.text.specs.Joined.{joined}
 use Rattle.text.specs.Decimal.{decimal}
-use Rattle.text.specs.Columns.{Column, Value, headerOf, wellFormed, values, fieldAt}
+use Rattle.text.specs.declared.columns.Fault.{Fault}
+use Rattle.text.specs.declared.columns.Fault.the-variants.{TooLong, Miscounted, Broken}
+use Rattle.text.specs.Columns.{Column, Value, headerOf, faultOf, values, fieldAt}
 
 -- A kind of list: the columns of a row; the title of the answer's second column, and of its own columns, which stand between that and the code; what is answered
 -- to a row, by which rule; and what is written of it in the own columns.
@@ -52,13 +56,34 @@ RowAnswered kind line number text =
     (o : Outcome (kind .Answer)) × Follows (kind .rule (values (kind .columns) line)) o × (number ≡ o .code)
     × (text ≡ answerLine (fieldAt 0 line) (fieldAt 1 line) (ownColumns kind o) (o .code))
 
--- The line that answers an ill-formed one.
-abbrev pub illFormedLine : Kind → List ℕ
-illFormedLine kind = answerLine (ascii "?") (ascii "?") (blanks (kind .own)) (numberOf IllFormed)
+-- The refusal that a line's fault is.
+abbrev pub refusalOf : Fault → Refusal
+refusalOf TooLong = LineTooLong
+refusalOf Miscounted = FieldsMiscounted
+refusalOf (Broken number) = FieldBroken
 
--- What is answered to a line, given without its CRLF: the number, 0 where there is an answer, and the bytes to be written. 10: it is ill-formed; then what its row
--- is answered.
+-- The own columns of a faulty line. 14 is the one refusal that carries a number: that of the field, in the first of them. Every other leaves them all empty.
+abbrev pub faultColumns : List String → Fault → List (List ℕ)
+faultColumns titles TooLong = blanks titles
+faultColumns titles Miscounted = blanks titles
+faultColumns [] (Broken number) = []
+faultColumns (title ∷ titles) (Broken number) = decimal number ∷ blanks titles
+
+-- An answer line without names, and those of a faulty line and of a wrong header.
+abbrev pub namelessLine : List (List ℕ) → Refusal → List ℕ
+namelessLine own why = answerLine (ascii "?") (ascii "?") own (numberOf why)
+
+abbrev pub faultLine : Kind → Fault → List ℕ
+faultLine kind fault = namelessLine (faultColumns (kind .own) fault) (refusalOf fault)
+
+abbrev pub wrongHeaderLine : Kind → List ℕ
+wrongHeaderLine kind = namelessLine (blanks (kind .own)) WrongHeader
+
+-- What is answered to a line, given without its CRLF: the number, 0 where there is an answer, and the bytes to be written. 12, 13, 14: its fault; then what its
+-- row is answered.
+abbrev pub AnsweredBy : Kind → List ℕ → Option Fault → ℕ → List ℕ → Type 0
+AnsweredBy kind line none number text = RowAnswered kind line number text
+AnsweredBy kind line (some fault) number text = (number ≡ numberOf (refusalOf fault)) × (text ≡ faultLine kind fault)
+
 abbrev pub Answered : Kind → List ℕ → ℕ → List ℕ → Type 0
-Answered kind line number text =
-    if wellFormed (kind .columns) line then RowAnswered kind line number text
-    else (number ≡ numberOf IllFormed) × (text ≡ illFormedLine kind)
+Answered kind line number text = AnsweredBy kind line (faultOf (kind .columns) line) number text

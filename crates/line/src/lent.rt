@@ -4,8 +4,12 @@ ghost use Prim.Native.Nat.{_+_, _≤_};
 ghost use lib.ListN.{length};
 ghost use Rattle.line.specs.Lent.{PlacedAs};
 ghost use Rattle.text.specs.Columns.{longestLine};
-ghost use Rattle.line.specs.Writing.{refusedText, noRoom};
+ghost use Rattle.quantity.specs.Refusals.{numberOf};
+ghost use Rattle.text.specs.declared.columns.Fault.the-variants.{Broken};
+ghost use Rattle.line.specs.Kinds.{refusalOf};
+ghost use Rattle.line.specs.Writing.{refusedText, faultText, noRoom};
 use quantity::Refusal;
+use text::Fault;
 
 // What was answered to a line: the number, 0 where the line is read, and how many bytes of the buffer were written.
 pub struct LineAnswer {
@@ -70,5 +74,36 @@ pub fn place_refused(names: &[u8], commas: &[u8], number: u8, out: &mut [u8]) ->
     Placing {
         answer: LineAnswer { code, wrote },
         fitted: true,
+    }
+}
+
+// Room for the two question marks and a number.
+const NAMES: usize = 24;
+
+// The number of the field that breaks its rule stands after the names, in the first own column.
+fn place_broken(field: usize, commas: &[u8], out: &mut [u8]) -> Placing
+    requires { ⌜ length (now commas) ≤ longestLine ⌝ }
+    ensures { λ r. ⌜ PlacedAs (numberOf (refusalOf (Broken field))) (faultText (Broken field) (now (commas .entry))) (now (out .entry)) (now (out .exit)) r ⌝ }
+{
+    let mut names = [0u8; NAMES];
+    let at = text::add(&mut names, 0, b"?,?,");
+    let end = text::add_number(&mut names, at, field as u64);
+    place_refused(&names[..end], commas, Refusal::FieldBroken.number(), out)
+}
+
+// Writes the answer to a line that is no row: `commas` has a comma for each of the answer's own columns.
+pub fn place_fault(fault: Fault, commas: &[u8], out: &mut [u8]) -> Placing
+    requires { ⌜ length (now commas) ≤ longestLine ⌝ }
+    ensures { λ r. ⌜ PlacedAs (numberOf (refusalOf fault)) (faultText fault (now (commas .entry))) (now (out .entry)) (now (out .exit)) r ⌝ }
+{
+    match fault {
+        Fault::TooLong => place_refused(b"?,?,", commas, Refusal::LineTooLong.number(), out),
+        Fault::Miscounted => place_refused(
+            b"?,?,",
+            commas,
+            Refusal::FieldsMiscounted.number(),
+            out,
+        ),
+        Fault::Broken(field) => place_broken(field, commas, out),
     }
 }

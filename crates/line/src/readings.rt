@@ -15,7 +15,6 @@ use crate::lent::LineAnswer;
 use crate::lent::Placing;
 use law::ReadingAnswer;
 use quantity::Celsius;
-use quantity::Refusal;
 use row::ReadingParsed;
 use row::ReadingRow;
 
@@ -72,7 +71,7 @@ pub fn place_reading(line: &[u8], out: &mut [u8]) -> Placing
 {
     match row::parse_reading(line) {
         ReadingParsed::Row(row) => answer_row(line, row, out),
-        ReadingParsed::IllFormed => lent::place(Refusal::IllFormed.number(), b"?,?,,10\r\n", out),
+        ReadingParsed::NoRow(fault) => lent::place_fault(fault, b",", out),
     }
 }
 

@@ -9,12 +9,11 @@ use lib.ListN.{length}
 use lib.Seq.{length-take-le}
 use Rattle.whole.specs.Choice.{if_then_else_}
 use Rattle.text.specs.Columns.{longestLine}
-use Rattle.text.proofs.Rows.{too-long}
-use Rattle.line.specs.Kinds.{inputHeader, RowAnswered, illFormedLine}
+use Rattle.text.specs.declared.columns.Fault.{Fault}
+use Rattle.text.proofs.Faults.{long-fault}
+use Rattle.line.specs.Kinds.{inputHeader, AnsweredBy}
 use Rattle.list.specs.declared.kinds.Kind.{Kind}
 use Rattle.list.specs.declared.kinds.Desk.{Desk}
-use Rattle.quantity.specs.Refusals.{numberOf}
-use Rattle.quantity.specs.declared.refusal.Refusal.the-variants.{IllFormed}
 use Rattle.list.specs.declared.state.Stage.{Stage}
 use Rattle.list.specs.declared.state.Stage.the-variants.{Header, Rows, Stopped}
 use Rattle.lines.specs.Lines.{allButLast, endsLine, ended}
@@ -40,8 +39,7 @@ module _ (p q : List ℕ) (hp : longestLine < length p) (hq : longestLine < leng
   over-due (Header desk) n t = ap (λ (k : Option Kind). HeaderDue desk k n t) (over-not-header desk p hp ∙ sym (over-not-header desk q hq))
   over-due (Rows k) n t =
       let kind = kindOf k in
-      ap (λ (u : Bool). if u then RowAnswered kind p n t else (n ≡ numberOf IllFormed) × (t ≡ illFormedLine kind)) (too-long (kind .columns) p hp)
-      ∙ sym (ap (λ (u : Bool). if u then RowAnswered kind q n t else (n ≡ numberOf IllFormed) × (t ≡ illFormedLine kind)) (too-long (kind .columns) q hq))
+      ap (λ (found : Option Fault). AnsweredBy kind p found n t) (long-fault (kind .columns) p hp) ∙ sym (ap (λ (found : Option Fault). AnsweredBy kind q found n t) (long-fault (kind .columns) q hq))
   over-due Stopped n t = refl
 
   over-next : (g : Stage) → next g p ≡ next g q

@@ -6,7 +6,7 @@ use Prim.Native.Nat.{ℕ, _+_, _≤_, _<_}
 use native.Mathlib.Omega.{arith}
 use lib.ListN.{length, length-append}
 use Rattle.quantity.specs.Refusals.{numberOf}
-use Rattle.quantity.specs.declared.refusal.Refusal.the-variants.{IllFormed, BufferShort}
+use Rattle.quantity.specs.declared.refusal.Refusal.the-variants.{WrongHeader, BufferShort}
 use Rattle.text.specs.Decimal.{decimal}
 use Rattle.list.specs.declared.kinds.Kind.{Kind}
 use Rattle.list.specs.declared.kinds.Desk.{Desk}
@@ -16,7 +16,7 @@ use Rattle.list.specs.declared.state.Stage.the-variants.{Header, Rows, S
 use Rattle.list.specs.Kinds.{headed, wrongHeader, room}
 use Rattle.list.specs.Feeding.{HeaderDue, Due, next, DueToAll, DueAtEnd}
 use Rattle.list.specs.Promised.{roomAt}
-use Rattle.list.proofs.OfKinds.{one-answer-of, answers-fit-of, numbers-few-of}
+use Rattle.list.proofs.OfKinds.{one-answer-of, answers-fit-of, never-short-of}
 use Rattle.list.proofs.Headers.{header-short}
 
 pub due-append : (g between later : Stage) (x y : List (List ℕ)) (ns ms t u : List ℕ) → DueToAll g x ns t between → DueToAll between y ms u later → DueToAll g (x ++ y) (ns ++ ms) (t ++ u) later
@@ -102,30 +102,30 @@ at-end-unique Stopped (b ∷ s) n n′ t t′ h k = due-unique Stopped (b ∷ s)
 
 -- ---- a short text, and not the number of a short buffer
 pub record Small (room n : ℕ) (t : List ℕ) : Type 0 where
-  pub number : n < numberOf BufferShort
+  pub number : n ≡ numberOf BufferShort → ⊥
   pub text : length t ≤ room
 
-small : {room n m : ℕ} {t u : List ℕ} → m < numberOf BufferShort → length u ≤ room → (n ≡ m) × (t ≡ u) → Small room n t
-small h k (e, f) = record { number = rw e h; text = rw f k }
+small : {room n m : ℕ} {t u : List ℕ} → (m ≡ numberOf BufferShort → ⊥) → length u ≤ room → (n ≡ m) × (t ≡ u) → Small room n t
+small h k (e, f) = record { number = λ short. h (sym e ∙ short); text = rw f k }
 
-wrong-small : (desk : Desk) (n : ℕ) (t : List ℕ) → (n ≡ numberOf IllFormed) × (t ≡ wrongHeader desk) → Small (room desk) n t
+wrong-small : (desk : Desk) (n : ℕ) (t : List ℕ) → (n ≡ numberOf WrongHeader) × (t ≡ wrongHeader desk) → Small (room desk) n t
 unfolding decimal
-wrong-small Launch n t = small (omega arith) (omega arith)
-wrong-small Bench n t = small (omega arith) (omega arith)
+wrong-small Launch n t = small (λ e. omega arith) (omega arith)
+wrong-small Bench n t = small (λ e. omega arith) (omega arith)
 
 header-small : (desk : Desk) (k : Option Kind) (n : ℕ) (t : List ℕ) → HeaderDue desk k n t → Small (room desk) n t
 header-small desk none n t h = wrong-small desk n t h
-header-small desk (some k) n t (i, j) = record { number = rw i (omega arith); text = rw j (header-short desk k) }
+header-small desk (some k) n t (i, j) = record { number = λ e. omega (arith, i, e); text = rw j (header-short desk k) }
 
 pub due-small : (g : Stage) (line : List ℕ) (n : ℕ) (t : List ℕ) → Due g line n t → Small (roomAt g) n t
 due-small (Header desk) line n t h = header-small desk (headed desk line) n t h
-due-small (Rows k) line n t h = record { number = numbers-few-of k line n t h; text = answers-fit-of k line n t h }
-due-small Stopped line n t h = small (omega arith) (omega arith) h
+due-small (Rows k) line n t h = record { number = never-short-of k line n t h; text = answers-fit-of k line n t h }
+due-small Stopped line n t h = small (λ e. omega arith) (omega arith) h
 
 pub at-end-small : (g : Stage) (line : List ℕ) (n : ℕ) (t : List ℕ) → DueAtEnd g line n t → Small (roomAt g) n t
 at-end-small (Header desk) [] n t h = wrong-small desk n t h
-at-end-small (Rows k) [] n t h = small (omega arith) (omega arith) h
-at-end-small Stopped [] n t h = small (omega arith) (omega arith) h
+at-end-small (Rows k) [] n t h = small (λ e. omega arith) (omega arith) h
+at-end-small Stopped [] n t h = small (λ e. omega arith) (omega arith) h
 at-end-small (Header desk) (b ∷ s) n t h = due-small (Header desk) (b ∷ s) n t h
 at-end-small (Rows k) (b ∷ s) n t h = due-small (Rows k) (b ∷ s) n t h
 at-end-small Stopped (b ∷ s) n t h = due-small Stopped (b ∷ s) n t h

@@ -1,6 +1,6 @@
 -- What holds of every kind of list: a line has one answer, which is short.
-use Rattle.line.specs.Promised.{OneAnswer, AnswersFit, NumbersFew}
-use Rattle.line.proofs.ReadRows.{one-reading, readings-fit, readings-few}
+use Rattle.line.specs.Promised.{OneAnswer, AnswersFit, NeverShort}
+use Rattle.line.proofs.ReadRows.{one-reading, readings-fit, readings-never-short}
 use Rattle.bench.proofs.Unique as bench
 use Rattle.bench.proofs.Rooms as rooms
 use Rattle.list.specs.declared.kinds.Kind.{Kind}
@@ -21,9 +21,9 @@ answers-fit-of Resistances = rooms.resistances-fit
 answers-fit-of Steps = rooms.steps-fit
 answers-fit-of Tolerances = rooms.results-fit
 
-pub numbers-few-of : (k : Kind) → NumbersFew (kindOf k)
-numbers-few-of Readings = readings-few
-numbers-few-of Records = rooms.records-few
-numbers-few-of Resistances = rooms.resistances-few
-numbers-few-of Steps = rooms.steps-few
-numbers-few-of Tolerances = rooms.results-few
+pub never-short-of : (k : Kind) → NeverShort (kindOf k)
+never-short-of Readings = readings-never-short
+never-short-of Records = rooms.records-never-short
+never-short-of Resistances = rooms.resistances-never-short
+never-short-of Steps = rooms.steps-never-short
+never-short-of Tolerances = rooms.results-never-short

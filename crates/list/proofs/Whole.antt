@@ -178,7 +178,7 @@ end-fits st out out′ x (n, t, due, placed) enough e =
     let small = at-end-small (st .stage) (lineOf st) n t due in
     let written : (x ≡ record { code = n; wrote = length t }) × (out′ ≡ t ++ drop (length t) out) = rw (le-leb (length t) (length out) (omega (arith, small .text))) at placed in
     let code : x .code ≡ n = ap (λ (x : LineAnswer). x .code) (written .0) in
-    omega (arith, small .number)
+    small .number (sym code ∙ e)
 
 pub enough-room : EnoughRoom
 enough-room (Header Launch) = omega arith

@@ -8,7 +8,7 @@ use lib.Dec.{ltb}
 use lib.ListN.{length, getD, take, drop}
 use Rattle.whole.specs.Choice.{if_then_else_}
 use Rattle.quantity.specs.Refusals.{numberOf}
-use Rattle.quantity.specs.declared.refusal.Refusal.the-variants.{IllFormed, BufferShort}
+use Rattle.quantity.specs.declared.refusal.Refusal.the-variants.{WrongHeader, BufferShort}
 use Rattle.line.specs.declared.lent.LineAnswer.{LineAnswer}
 use Rattle.line.specs.Kinds.{outputHeader, Answered}
 use Rattle.line.specs.Lent.{Placed}
@@ -25,7 +25,7 @@ use Rattle.list.specs.Tallies.{tallyOf}
 
 -- The number and the text that are due to a header: by the kind of list that it names.
 abbrev pub HeaderDue : Desk → Option Kind → ℕ → List ℕ → Type 0
-HeaderDue desk none number text = (number ≡ numberOf IllFormed) × (text ≡ wrongHeader desk)
+HeaderDue desk none number text = (number ≡ numberOf WrongHeader) × (text ≡ wrongHeader desk)
 HeaderDue desk (some k) number text = (number ≡ 0) × (text ≡ outputHeader (kindOf k))
 
 -- The number and the text that are due to a line: as the header, after the header, and after a wrong one, where nothing is read any more.
@@ -53,7 +53,7 @@ DueToAll stage (line ∷ others) numbers text later =
 
 -- What is due to no line: before the header that is a wrong header.
 abbrev pub DueToNone : Stage → ℕ → List ℕ → Type 0
-DueToNone (Header desk) number text = (number ≡ numberOf IllFormed) × (text ≡ wrongHeader desk)
+DueToNone (Header desk) number text = (number ≡ numberOf WrongHeader) × (text ≡ wrongHeader desk)
 DueToNone (Rows k) number text = (number ≡ 0) × (text ≡ [])
 DueToNone Stopped number text = (number ≡ 0) × (text ≡ [])
 

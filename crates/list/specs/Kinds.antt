@@ -7,7 +7,7 @@ use lib.Dec.{eqb}
 use lib.ListN.{getD}
 use Rattle.whole.specs.Choice.{if_then_else_}
 use Rattle.line.specs.Kinds as line
-use Rattle.line.specs.Kinds.{inputHeader, outputHeader, illFormedLine}
+use Rattle.line.specs.Kinds.{inputHeader, outputHeader, wrongHeaderLine}
 use Rattle.line.specs.Readings.{readings, readingRoom}
 use Rattle.bench.specs.Certificates.{records, resistances}
 use Rattle.bench.specs.Forward.{steps}
@@ -56,9 +56,9 @@ abbrev pub statedKind : Headed → Option Kind
 statedKind (As k) = some k
 statedKind Unknown = none
 
--- To a wrong header, none at all included, the output's header of the first kind and its ill-formed line.
+-- To a wrong header, none at all included, the output's header of the first kind and the line that says so.
 abbrev pub wrongHeader : Desk → List ℕ
-wrongHeader desk = outputHeader (kindOf (firstKind desk)) ++ illFormedLine (kindOf (firstKind desk))
+wrongHeader desk = outputHeader (kindOf (firstKind desk)) ++ wrongHeaderLine (kindOf (firstKind desk))
 
 -- So many bytes hold every answer to a line of a kind.
 abbrev pub roomOf : Kind → ℕ

@@ -1,20 +1,21 @@
 -- How many lines ended, and how they were answered.
-use mathlib.Core.Bool.{Bool, not}
+use mathlib.Core.Bool.{Bool, not, _||_}
 use mathlib.Core.List.{List, [], _∷_}
 use Prim.Native.Nat.{ℕ, _+_, _^_, _≤_, _<_}
 use lib.Dec.{eqb}
 use lib.ListN.{length}
 use Rattle.whole.specs.Choice.{if_then_else_}
 use Rattle.quantity.specs.Refusals.{numberOf}
-use Rattle.quantity.specs.declared.refusal.Refusal.the-variants.{IllFormed}
+use Rattle.quantity.specs.declared.refusal.Refusal.the-variants.{WrongHeader}
+use Rattle.line.specs.Promised.{isFault}
 use Rattle.list.specs.declared.tally.Tally.{Tally}
 
--- A line is refused where the number given to it is not 0, and faulty where it is that of a line that is no row, or no header where one is due.
+-- A line is refused where the number given to it is not 0, and faulty where it is that of a line that is no row, or of a wrong header.
 abbrev pub isRefused : ℕ → Bool
 isRefused number = not (eqb number 0)
 
 abbrev pub isFaulty : ℕ → Bool
-isFaulty number = eqb number (numberOf IllFormed)
+isFaulty number = isFault number || eqb number (numberOf WrongHeader)
 
 abbrev pub oneIf : Bool → ℕ
 oneIf such = if such then 1 else 0

@@ -1,7 +1,7 @@
 // The reply to a line: as the header of a list, as a row of it, or after a wrong header.
 ghost use mathlib.Core.Path.{_≡_};
 ghost use Rattle.quantity.specs.Refusals.{numberOf};
-ghost use Rattle.quantity.specs.declared.refusal.Refusal.the-variants.{IllFormed};
+ghost use Rattle.quantity.specs.declared.refusal.Refusal.the-variants.{WrongHeader};
 ghost use Rattle.line.specs.Kinds.{outputHeader};
 ghost use Rattle.line.specs.Lent.{PlacedAs, AnsweredAs};
 ghost use Rattle.list.specs.Kinds.{kindOf, wrongHeader};
@@ -23,9 +23,9 @@ pub struct Reply {
 
 // To a wrong header.
 pub fn wrong_header(desk: Desk, out: &mut [u8]) -> Placing
-    ensures { λ r. ⌜ PlacedAs (numberOf IllFormed) (wrongHeader desk) (now (out .entry)) (now (out .exit)) r ⌝ }
+    ensures { λ r. ⌜ PlacedAs (numberOf WrongHeader) (wrongHeader desk) (now (out .entry)) (now (out .exit)) r ⌝ }
 {
-    let number = Refusal::IllFormed.number();
+    let number = Refusal::WrongHeader.number();
     match desk {
         Desk::Launch => line::place(number, b"id,law,t,code\r\n?,?,,10\r\n", out),
         Desk::Bench => line::place(number, b"id,law,a,b,c,d,wal,code\r\n?,?,,,,,,10\r\n", out),

@@ -1,7 +1,7 @@
 // How many lines of a list ended, and how they were answered.
 ghost use mathlib.Core.Path.{_≡_};
 ghost use mathlib.Core.List.{[]};
-ghost use Rattle.list.specs.Tallies.{tallyOf, withLine, Countable};
+ghost use Rattle.list.specs.Tallies.{isFaulty, tallyOf, withLine, Countable};
 use quantity::Refusal;
 
 // All lines that ended, those of them that were refused, and those of these that are faulty: no rows, or no header. A header is a line too. After a wrong header
@@ -22,6 +22,15 @@ pub fn no_lines() -> Tally
     }
 }
 
+fn is_faulty(number: u8) -> bool
+    ensures { λ r. ⌜ r ≡ isFaulty number ⌝ }
+{
+    (number == Refusal::LineTooLong.number())
+        | (number == Refusal::FieldsMiscounted.number())
+        | (number == Refusal::FieldBroken.number())
+        | (number == Refusal::WrongHeader.number())
+}
+
 impl Tally {
     // With one line more, to which this number was given.
     pub(crate) fn with_line(self, number: u8) -> Tally
@@ -37,7 +46,7 @@ impl Tally {
             };
         }
         let refused = self.refused + 1;
-        if number == Refusal::IllFormed.number() {
+        if is_faulty(number) {
             return Tally {
                 lines,
                 refused,

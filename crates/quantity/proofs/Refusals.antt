@@ -5,7 +5,7 @@ use Prim.Native.Nat.{ℕ, _-_}
 use native.Mathlib.Omega.{arith}
 use lib.ListN.{getD}
 use Rattle.quantity.specs.declared.refusal.Refusal.{Refusal}
-use Rattle.quantity.specs.declared.refusal.Refusal.the-variants.{ResistanceOutside, RatioAbove, NameUnknown, CellNotMeasured, PurityCellNotMeasured, Impure, BeyondLimit, BelowRange, AboveRange, IllFormed, BufferShort, NumberUnfit, SerialClash, TooFewPlaces, NotLive, TableBad}
+use Rattle.quantity.specs.declared.refusal.Refusal.the-variants.{ResistanceOutside, RatioAbove, NameUnknown, CellNotMeasured, PurityCellNotMeasured, Impure, BeyondLimit, BelowRange, AboveRange, WrongHeader, BufferShort, LineTooLong, FieldsMiscounted, FieldBroken, NumberUnfit, SerialClash, TooFewPlaces, NotLive, TableBad}
 use Rattle.quantity.specs.Refusals.{numberOf}
 
 -- the refusals by their numbers, from 1; a number that is not given has the first one's place
@@ -20,11 +20,11 @@ table =
     ∷ BeyondLimit
     ∷ BelowRange
     ∷ AboveRange
-    ∷ IllFormed
+    ∷ WrongHeader
     ∷ BufferShort
-    ∷ ResistanceOutside
-    ∷ ResistanceOutside
-    ∷ ResistanceOutside
+    ∷ LineTooLong
+    ∷ FieldsMiscounted
+    ∷ FieldBroken
     ∷ ResistanceOutside
     ∷ ResistanceOutside
     ∷ NumberUnfit
@@ -50,8 +50,11 @@ back Impure = refl
 back BeyondLimit = refl
 back BelowRange = refl
 back AboveRange = refl
-back IllFormed = refl
+back WrongHeader = refl
 back BufferShort = refl
+back LineTooLong = refl
+back FieldsMiscounted = refl
+back FieldBroken = refl
 back NumberUnfit = refl
 back SerialClash = refl
 back TooFewPlaces = refl

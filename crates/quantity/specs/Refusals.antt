@@ -1,7 +1,7 @@
 -- "Numbers given when there is no answer": the number of each row of the table, and the row in short.
 use Prim.Native.Nat.{ℕ}
 use Rattle.quantity.specs.declared.refusal.Refusal.{Refusal}
-use Rattle.quantity.specs.declared.refusal.Refusal.the-variants.{ResistanceOutside, RatioAbove, NameUnknown, CellNotMeasured, PurityCellNotMeasured, Impure, BeyondLimit, BelowRange, AboveRange, IllFormed, BufferShort, NumberUnfit, SerialClash, TooFewPlaces, NotLive, TableBad}
+use Rattle.quantity.specs.declared.refusal.Refusal.the-variants.{ResistanceOutside, RatioAbove, NameUnknown, CellNotMeasured, PurityCellNotMeasured, Impure, BeyondLimit, BelowRange, AboveRange, WrongHeader, BufferShort, LineTooLong, FieldsMiscounted, FieldBroken, NumberUnfit, SerialClash, TooFewPlaces, NotLive, TableBad}
 
 abbrev pub numberOf : Refusal → ℕ
 -- R or R0 outside its limits
@@ -22,10 +22,17 @@ numberOf BeyondLimit = 7
 numberOf BelowRange = 8
 -- above the range
 numberOf AboveRange = 9
--- ill-formed line
-numberOf IllFormed = 10
+-- a wrong header
+numberOf WrongHeader = 10
 -- lent buffer shorter than the answer line
 numberOf BufferShort = 11
+-- ---- of a line (request 2)
+-- a line longer than its limit
+numberOf LineTooLong = 12
+-- not as many fields as the header
+numberOf FieldsMiscounted = 13
+-- a field that breaks its rule: the one refusal that carries a number, that of the field
+numberOf FieldBroken = 14
 -- ---- of the register (request 6)
 -- a thermometer 0 or twice in the list
 numberOf NumberUnfit = 17

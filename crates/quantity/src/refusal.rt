@@ -2,7 +2,7 @@
 ghost use mathlib.Core.Path.{_≡_};
 ghost use Rattle.quantity.specs.Refusals.{numberOf};
 
-// Why there is no answer. One case for each row of the scope document's table, then those of the register.
+// Why there is no answer. One case for each row of the scope document's table, then those of the requests, by their numbers.
 pub enum Refusal {
     ResistanceOutside,
     RatioAbove,
@@ -13,8 +13,11 @@ pub enum Refusal {
     BeyondLimit,
     BelowRange,
     AboveRange,
-    IllFormed,
+    WrongHeader,
     BufferShort,
+    LineTooLong,
+    FieldsMiscounted,
+    FieldBroken,
     NumberUnfit,
     SerialClash,
     TooFewPlaces,
@@ -37,8 +40,11 @@ impl Refusal {
             Refusal::BeyondLimit => 7,
             Refusal::BelowRange => 8,
             Refusal::AboveRange => 9,
-            Refusal::IllFormed => 10,
+            Refusal::WrongHeader => 10,
             Refusal::BufferShort => 11,
+            Refusal::LineTooLong => 12,
+            Refusal::FieldsMiscounted => 13,
+            Refusal::FieldBroken => 14,
             Refusal::NumberUnfit => 17,
             Refusal::SerialClash => 18,
             Refusal::TooFewPlaces => 19,

@@ -3,7 +3,8 @@ use mathlib.Core.Path.{_≡_, refl, sym, subst}
 use mathlib.Core.List.{List, _∷_}
 use Prim.Native.Nat.{ℕ}
 use Prim.Native.String.{String}
-use Rattle.text.specs.Columns.{Column, _holds_, natural, Value, count}
+use Rattle.text.specs.declared.columns.Holds.the-variants.{Natural}
+use Rattle.text.specs.Columns.{Column, _holds_, Value, count}
 use Rattle.text.specs.Numbers.{isNumber, valueOf}
 use Rattle.text.specs.Scanned.{scannedAt}
 use Rattle.text.proofs.Rows.{Scan, a-natural}
@@ -12,9 +13,9 @@ use Rattle.row.specs.Places.{digits}
 use Rattle.row.specs.Resistances.{pairAt}
 
 pub a-pair : {line : List ℕ} {one two : String} {cs : List Column} {from end : ℕ} {vs : List Value} (x : PairAt) → x ≡ pairAt line from → Scan line cs (x .next) end vs
-    → Scan line ((one holds natural digits) ∷ (two holds natural digits) ∷ cs) from end (count (x .pair .r .0) ∷ count (x .pair .r0 .0) ∷ vs)
+    → Scan line ((one holds Natural digits) ∷ (two holds Natural digits) ∷ cs) from end (count (x .pair .r .0) ∷ count (x .pair .r0 .0) ∷ vs)
 a-pair {line} {one} {two} {cs} {from} {end} {vs} x e s =
     let r = scannedAt (isNumber digits) valueOf line from in
     let scan = subst (λ (x : PairAt). Scan line cs (x .next) end vs) e s in
-    subst (λ (x : PairAt). Scan line ((one holds natural digits) ∷ (two holds natural digits) ∷ cs) from end (count (x .pair .r .0) ∷ count (x .pair .r0 .0) ∷ vs)) (sym e)
+    subst (λ (x : PairAt). Scan line ((one holds Natural digits) ∷ (two holds Natural digits) ∷ cs) from end (count (x .pair .r .0) ∷ count (x .pair .r0 .0) ∷ vs)) (sym e)
     (a-natural r refl (a-natural (scannedAt (isNumber digits) valueOf line (r .next)) refl scan))

@@ -1,32 +1,40 @@
 -- What reading a line answered says of the line.
-use mathlib.Core.Path.{_≡_, refl, ap}
-use mathlib.Core.Bool.{Bool, true, false}
+use mathlib.Core.Path.{_≡_, refl, sym, ap}
+use mathlib.Core.Bool.{Bool, true, false, true≢false}
 use mathlib.Core.List.{List}
 use mathlib.Core.Option.{Option, none, some}
-use native.Mathlib.Omega.{arith}
 use Prim.Native.Nat.{ℕ}
-use Rattle.whole.specs.Choice.{if_then_else_}
-use Rattle.quantity.specs.Refusals.{numberOf}
-use Rattle.quantity.specs.declared.refusal.Refusal.the-variants.{IllFormed}
-use Rattle.text.specs.Columns.{Column, wellFormed}
-use Rattle.row.specs.Parsing.{Parsing, aRow, noRow, parsedBy}
+use Rattle.text.specs.declared.columns.Fault.{Fault}
+use Rattle.text.specs.Columns.{Column, faultOf, wellFormed}
+use Rattle.text.proofs.Faults.{a-row}
+use Rattle.row.specs.Parsing.{Parsing, aRow, noRow, rowUnless, parsedBy}
 
-rowIn : {Row : Type 0} → Row → Option Row → Row
-rowIn other (some row) = row
-rowIn other none = other
+module _ {Row : Type 0} where
+  isRow : Parsing Row → Bool
+  isRow (aRow row) = true
+  isRow (noRow fault) = false
 
-module _ {Row : Type 0} (columns : List Column) (rowOf : List ℕ → Row) (line : List ℕ) where
-  pub is-row : (row : Row) → aRow row ≡ parsedBy columns rowOf line → (wellFormed columns line ≡ true) × (row ≡ rowOf line)
-  unfolding rowIn
-  is-row row = by (wellFormed columns line)
-    where
-      by : (t : Bool) → aRow row ≡ (if t then aRow (rowOf line) else noRow) → (t ≡ true) × (row ≡ rowOf line)
-      by true e = (refl, ap (λ (p : Parsing Row). rowIn row (p .row)) e)
-      by false e = absurd (let code : 0 ≡ numberOf IllFormed = ap (λ (p : Parsing Row). p .code) e in omega arith)
+  rowIn : Row → Parsing Row → Row
+  rowIn other (aRow row) = row
+  rowIn other (noRow fault) = other
 
-  pub is-none : noRow ≡ parsedBy columns rowOf line → wellFormed columns line ≡ false
-  is-none = by (wellFormed columns line)
-    where
-      by : (t : Bool) → noRow ≡ (if t then aRow (rowOf line) else noRow) → t ≡ false
-      by true e = absurd (let code : numberOf IllFormed ≡ 0 = ap (λ (p : Parsing Row). p .code) e in omega arith)
-      by false e = refl
+  faultIn : Fault → Parsing Row → Fault
+  faultIn other (aRow row) = other
+  faultIn other (noRow fault) = fault
+
+  module _ (columns : List Column) (rowOf : List ℕ → Row) (line : List ℕ) where
+    pub is-row : (row : Row) → aRow row ≡ parsedBy columns rowOf line → (wellFormed columns line ≡ true) × (row ≡ rowOf line)
+    unfolding isRow rowIn
+    is-row row = by (faultOf columns line) refl
+      where
+        by : (found : Option Fault) → faultOf columns line ≡ found → aRow row ≡ rowUnless found (rowOf line) → (wellFormed columns line ≡ true) × (row ≡ rowOf line)
+        by none f e = (a-row columns line f, ap (rowIn row) e)
+        by (some fault) f e = absurd (true≢false (ap isRow e))
+
+    pub is-fault : (fault : Fault) → noRow fault ≡ parsedBy columns rowOf line → faultOf columns line ≡ some fault
+    unfolding isRow faultIn
+    is-fault fault = by (faultOf columns line)
+      where
+        by : (found : Option Fault) → noRow fault ≡ rowUnless found (rowOf line) → found ≡ some fault
+        by none e = absurd (true≢false (ap isRow (sym e)))
+        by (some other) e = ap (λ (p : Parsing Row). some (faultIn fault p)) (sym e)

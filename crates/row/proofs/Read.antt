@@ -1,27 +1,23 @@
 -- A line read field by field is what its columns say.
-use mathlib.Core.Path.{_≡_}
-use mathlib.Core.Bool.{true}
+use mathlib.Core.Path.{_≡_, ap, _∙_}
+use mathlib.Core.Bool.{true, false}
 use mathlib.Core.List.{List}
-use Prim.Native.Nat.{ℕ, _+_, _≤_, _<_}
-use lib.ListN.{length}
+use Prim.Native.Nat.{ℕ, _+_, _≤_}
+use lib.ListN.{length, take}
+use Rattle.text.specs.declared.columns.Holds.{Holds}
 use Rattle.text.specs.Columns.{Column, Value, wellFormed, longestLine, values, namesLength}
-use Rattle.text.proofs.Rows.{Scan, scan-no-row, scan-row, scan-values, too-long}
-use Rattle.row.specs.Parsing.{aRow, noRow, parsedBy}
+use Rattle.text.specs.Scanned.{faultFound}
+use Rattle.text.proofs.Rows.{Scan, scan-row, scan-values}
+use Rattle.text.proofs.Faults.{fault-is, no-fault}
+use Rattle.row.specs.Parsing.{aRow, noRow, parsedBy, AreHeld}
 
-module _ {Row : Type 0} (columns : List Column) (rowFrom : ℕ → List Value → Row) (line : List ℕ) where
-  rowOf : List ℕ → Row
-  rowOf line = rowFrom (namesLength line) (values columns line)
+-- a line that is no row, by what the columns hold
+pub not-read : {Row : Type 0} (columns : List Column) (rowOf : List ℕ → Row) (line : List ℕ) → wellFormed columns line ≡ false → (room : List Holds) → AreHeld columns room
+    → noRow (faultFound (take (length columns) room) line) ≡ parsedBy columns rowOf line
+not-read columns rowOf line w room (e, narrow) = rw (fault-is columns line w, e)
 
-  -- a line that is too long
-  pub not-read : longestLine < length line → noRow ≡ parsedBy columns (λ (line : List ℕ). rowFrom (namesLength line) (values columns line)) line
-  not-read h = rw (too-long columns line h)
-
-  module _ {end : ℕ} {vs : List Value} (s : Scan line columns 0 end vs) (short : length line ≤ longestLine) where
-    -- one whose last field does not end where the line does
-    pub read-none : (end ≡ length line + 1 → ⊥) → noRow ≡ parsedBy columns (λ (line : List ℕ). rowFrom (namesLength line) (values columns line)) line
-    read-none h = rw (scan-no-row line s short h)
-
-    -- and one whose last field does
-    pub read-row : end ≡ length line + 1 → (names : ℕ) → (wellFormed columns line ≡ true → names ≡ namesLength line)
-        → aRow (rowFrom names vs) ≡ parsedBy columns (λ (line : List ℕ). rowFrom (namesLength line) (values columns line)) line
-    read-row e names n = rw (scan-row line s short e, n (scan-row line s short e), scan-values line s short e)
+module _ {Row : Type 0} (columns : List Column) (rowFrom : ℕ → List Value → Row) (line : List ℕ) {end : ℕ} {vs : List Value} (s : Scan line columns 0 end vs) (short : length line ≤ longestLine) where
+  -- one whose last field ends where the line does
+  pub read-row : end ≡ length line + 1 → (names : ℕ) → (wellFormed columns line ≡ true → names ≡ namesLength line)
+      → aRow (rowFrom names vs) ≡ parsedBy columns (λ (line : List ℕ). rowFrom (namesLength line) (values columns line)) line
+  read-row e names n = rw (no-fault columns line (scan-row line s short e), n (scan-row line s short e), scan-values line s short e)

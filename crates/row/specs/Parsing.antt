@@ -1,23 +1,29 @@
 -- What reading a line by its columns states.
-use mathlib.Core.List.{List}
+use mathlib.Core.Path.{_≡_}
+use mathlib.Core.Bool.{true}
+use mathlib.Core.List.{List, map}
 use mathlib.Core.Option.{Option, none, some}
 use Prim.Native.Nat.{ℕ}
-use Rattle.whole.specs.Choice.{if_then_else_}
-use Rattle.quantity.specs.Refusals.{numberOf}
-use Rattle.quantity.specs.declared.refusal.Refusal.the-variants.{IllFormed}
-use Rattle.text.specs.Columns.{Column, wellFormed}
+use lib.ListN.{length, take}
+use Rattle.whole.specs.Any.{every}
+use Rattle.text.specs.declared.columns.Holds.{Holds}
+use Rattle.text.specs.declared.columns.Fault.{Fault}
+use Rattle.text.specs.Columns.{Column, held, faultOf}
+use Rattle.text.specs.Scanned.{isNarrow}
 
--- The number given, 0 where the line is a row, and the row; a line that is none has none.
-pub record Parsing (Row : Type 0) : Type 0 where
-  pub code : ℕ
-  pub row : Option Row
+-- A row, or why there is none.
+pub data Parsing (Row : Type 0) : Type 0 where
+  aRow : Row → Parsing Row
+  noRow : Fault → Parsing Row
 
-abbrev pub aRow : {Row : Type 0} → Row → Parsing Row
-aRow row = record { code = 0; row = some row }
-
-abbrev pub noRow : {Row : Type 0} → Parsing Row
-noRow = record { code = numberOf IllFormed; row = none }
+abbrev pub rowUnless : {Row : Type 0} → Option Fault → Row → Parsing Row
+rowUnless none row = aRow row
+rowUnless (some fault) row = noRow fault
 
 -- By the columns of a list, and by what a row of it says.
 abbrev pub parsedBy : {Row : Type 0} → List Column → (List ℕ → Row) → List ℕ → Parsing Row
-parsedBy columns rowOf line = if wellFormed columns line then aRow (rowOf line) else noRow
+parsedBy columns rowOf line = rowUnless (faultOf columns line) (rowOf line)
+
+-- What the columns of a list hold, at the start of what has room for more.
+abbrev pub AreHeld : List Column → List Holds → Type 0
+AreHeld columns room = (take (length columns) room ≡ map held columns) × (every isNarrow room ≡ true)

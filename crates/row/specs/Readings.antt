@@ -1,24 +1,25 @@
 -- A list of readings: its columns, and what a row says.
 use mathlib.Core.List.{List, [], _∷_}
 use Prim.Native.Nat.{ℕ}
-use Rattle.text.specs.Columns.{Column, _holds_, id, name, natural, signed, Value, values, countAt, namesLength}
+use Rattle.text.specs.declared.columns.Holds.the-variants.{Id, Name, Natural, Signed}
+use Rattle.text.specs.Columns.{Column, _holds_, Value, values, countAt, namesLength}
 use Rattle.row.specs.declared.readings.ReadingRow.{ReadingRow}
 use Rattle.row.specs.declared.readings.ReadingParsed.{ReadingParsed}
-use Rattle.row.specs.declared.readings.ReadingParsed.the-variants.{Row, IllFormed}
+use Rattle.row.specs.declared.readings.ReadingParsed.the-variants.{Row, NoRow}
 use Rattle.row.specs.Parsing.{Parsing, aRow, noRow, parsedBy}
 use Rattle.row.specs.Places.{digits, givenAt}
 
 abbrev pub columns : List Column
 columns =
-    "id" holds id
-    ∷ "law" holds name
-    ∷ "r" holds natural digits
-    ∷ "r0" holds natural digits
-    ∷ "a" holds signed digits
-    ∷ "b" holds signed digits
-    ∷ "c" holds signed digits
-    ∷ "d" holds signed digits
-    ∷ "wal" holds natural digits
+    "id" holds Id
+    ∷ "law" holds Name
+    ∷ "r" holds Natural digits
+    ∷ "r0" holds Natural digits
+    ∷ "a" holds Signed digits
+    ∷ "b" holds Signed digits
+    ∷ "c" holds Signed digits
+    ∷ "d" holds Signed digits
+    ∷ "wal" holds Natural digits
     ∷ []
 
 abbrev pub rowFrom : ℕ → List Value → ReadingRow
@@ -30,7 +31,7 @@ rowOf line = rowFrom (namesLength line) (values columns line)
 -- What each case stands for.
 abbrev pub stated : ReadingParsed → Parsing ReadingRow
 stated (Row row) = aRow row
-stated IllFormed = noRow
+stated (NoRow fault) = noRow fault
 
 abbrev pub parsedAs : List ℕ → Parsing ReadingRow
 parsedAs = parsedBy columns rowOf

@@ -2,24 +2,25 @@
 use mathlib.Core.List.{List, [], _∷_}
 use Prim.Native.Nat.{ℕ}
 use Rattle.certificate.specs.declared.record.Record.{Record}
-use Rattle.text.specs.Columns.{Column, _holds_, id, name, natural, Value, values, nameAt, countAt, namesLength}
+use Rattle.text.specs.declared.columns.Holds.the-variants.{Id, Name, Natural}
+use Rattle.text.specs.Columns.{Column, _holds_, Value, values, nameAt, countAt, namesLength}
 use Rattle.row.specs.declared.records.RecordRow.{RecordRow}
 use Rattle.row.specs.declared.records.RecordParsed.{RecordParsed}
-use Rattle.row.specs.declared.records.RecordParsed.the-variants.{Row, IllFormed}
+use Rattle.row.specs.declared.records.RecordParsed.the-variants.{Row, NoRow}
 use Rattle.row.specs.Parsing.{Parsing, aRow, noRow, parsedBy}
 use Rattle.row.specs.Places.{digits}
 
 abbrev pub columns : List Column
 columns =
-    "id" holds id
-    ∷ "subrange" holds name
-    ∷ "hg" holds natural digits
-    ∷ "ga" holds natural digits
-    ∷ "in" holds natural digits
-    ∷ "sn" holds natural digits
-    ∷ "zn" holds natural digits
-    ∷ "al" holds natural digits
-    ∷ "ag" holds natural digits
+    "id" holds Id
+    ∷ "subrange" holds Name
+    ∷ "hg" holds Natural digits
+    ∷ "ga" holds Natural digits
+    ∷ "in" holds Natural digits
+    ∷ "sn" holds Natural digits
+    ∷ "zn" holds Natural digits
+    ∷ "al" holds Natural digits
+    ∷ "ag" holds Natural digits
     ∷ []
 
 abbrev pub recordFrom : List Value → Record
@@ -43,7 +44,7 @@ rowOf line = rowFrom (namesLength line) (values columns line)
 -- What each case stands for.
 abbrev pub stated : RecordParsed → Parsing RecordRow
 stated (Row row) = aRow row
-stated IllFormed = noRow
+stated (NoRow fault) = noRow fault
 
 abbrev pub parsedAs : List ℕ → Parsing RecordRow
 parsedAs = parsedBy columns rowOf

@@ -3,34 +3,35 @@ use mathlib.Core.List.{List, [], _∷_}
 use Prim.Native.Nat.{ℕ}
 use Rattle.certificate.specs.declared.resistances.Pair.{Pair}
 use Rattle.certificate.specs.declared.resistances.Resistances.{Resistances}
-use Rattle.text.specs.Columns.{Column, _holds_, id, name, natural, Value, values, nameAt, countAt, namesLength}
+use Rattle.text.specs.declared.columns.Holds.the-variants.{Id, Name, Natural}
+use Rattle.text.specs.Columns.{Column, _holds_, Value, values, nameAt, countAt, namesLength}
 use Rattle.text.specs.Numbers.{isNumber, valueOf}
 use Rattle.text.specs.Scanned.{scannedAt}
 use Rattle.row.specs.declared.resistances.PairAt.{PairAt}
 use Rattle.row.specs.declared.resistances.ResistancesRow.{ResistancesRow}
 use Rattle.row.specs.declared.resistances.ResistancesParsed.{ResistancesParsed}
-use Rattle.row.specs.declared.resistances.ResistancesParsed.the-variants.{Row, IllFormed}
+use Rattle.row.specs.declared.resistances.ResistancesParsed.the-variants.{Row, NoRow}
 use Rattle.row.specs.Parsing.{Parsing, aRow, noRow, parsedBy}
 use Rattle.row.specs.Places.{digits}
 
 abbrev pub columns : List Column
 columns =
-    "id" holds id
-    ∷ "subrange" holds name
-    ∷ "hg" holds natural digits
-    ∷ "hg0" holds natural digits
-    ∷ "ga" holds natural digits
-    ∷ "ga0" holds natural digits
-    ∷ "in" holds natural digits
-    ∷ "in0" holds natural digits
-    ∷ "sn" holds natural digits
-    ∷ "sn0" holds natural digits
-    ∷ "zn" holds natural digits
-    ∷ "zn0" holds natural digits
-    ∷ "al" holds natural digits
-    ∷ "al0" holds natural digits
-    ∷ "ag" holds natural digits
-    ∷ "ag0" holds natural digits
+    "id" holds Id
+    ∷ "subrange" holds Name
+    ∷ "hg" holds Natural digits
+    ∷ "hg0" holds Natural digits
+    ∷ "ga" holds Natural digits
+    ∷ "ga0" holds Natural digits
+    ∷ "in" holds Natural digits
+    ∷ "in0" holds Natural digits
+    ∷ "sn" holds Natural digits
+    ∷ "sn0" holds Natural digits
+    ∷ "zn" holds Natural digits
+    ∷ "zn0" holds Natural digits
+    ∷ "al" holds Natural digits
+    ∷ "al0" holds Natural digits
+    ∷ "ag" holds Natural digits
+    ∷ "ag0" holds Natural digits
     ∷ []
 
 -- The sensor's resistance in a cell, and in the water cell.
@@ -65,7 +66,7 @@ rowOf line = rowFrom (namesLength line) (values columns line)
 -- What each case stands for.
 abbrev pub stated : ResistancesParsed → Parsing ResistancesRow
 stated (Row row) = aRow row
-stated IllFormed = noRow
+stated (NoRow fault) = noRow fault
 
 abbrev pub parsedAs : List ℕ → Parsing ResistancesRow
 parsedAs = parsedBy columns rowOf

@@ -1,20 +1,21 @@
 -- A list of tolerance tests: its columns, and what a row says.
 use mathlib.Core.List.{List, [], _∷_}
 use Prim.Native.Nat.{ℕ}
-use Rattle.text.specs.Columns.{Column, _holds_, id, oneLetter, natural, signed, Value, values, letterAt, integerAt, countAt, namesLength}
+use Rattle.text.specs.declared.columns.Holds.the-variants.{Id, Letter, Natural, Signed}
+use Rattle.text.specs.Columns.{Column, _holds_, Value, values, letterAt, integerAt, countAt, namesLength}
 use Rattle.row.specs.declared.tolerances.ToleranceRow.{ToleranceRow}
 use Rattle.row.specs.declared.tolerances.ToleranceParsed.{ToleranceParsed}
-use Rattle.row.specs.declared.tolerances.ToleranceParsed.the-variants.{Row, IllFormed}
+use Rattle.row.specs.declared.tolerances.ToleranceParsed.the-variants.{Row, NoRow}
 use Rattle.row.specs.Parsing.{Parsing, aRow, noRow, parsedBy}
 use Rattle.row.specs.Places.{digits}
 
 abbrev pub columns : List Column
 columns =
-    "id" holds id
-    ∷ "class" holds oneLetter
-    ∷ "t" holds signed digits
-    ∷ "r" holds natural digits
-    ∷ "r0" holds natural digits
+    "id" holds Id
+    ∷ "class" holds Letter
+    ∷ "t" holds Signed digits
+    ∷ "r" holds Natural digits
+    ∷ "r0" holds Natural digits
     ∷ []
 
 abbrev pub rowFrom : ℕ → List Value → ToleranceRow
@@ -32,7 +33,7 @@ rowOf line = rowFrom (namesLength line) (values columns line)
 -- What each case stands for.
 abbrev pub stated : ToleranceParsed → Parsing ToleranceRow
 stated (Row row) = aRow row
-stated IllFormed = noRow
+stated (NoRow fault) = noRow fault
 
 abbrev pub parsedAs : List ℕ → Parsing ToleranceRow
 parsedAs = parsedBy columns rowOf

@@ -1,17 +1,26 @@
 // A row of a list of readings: id, law, r, r0 and the five places of a certificate.
 ghost use mathlib.Core.Path.{_≡_};
-ghost use Rattle.row.specs.Readings.{stated, parsedAs};
+ghost use mathlib.Core.Bool.{false};
+ghost use Rattle.text.specs.Columns.{wellFormed};
+ghost use Rattle.row.specs.Parsing.{AreHeld};
+ghost use Rattle.row.specs.Readings.{columns, stated, parsedAs};
 use crate::digits::DIGITS;
 use certificate::Given;
 use deviation::Places;
 use law::Name;
 use quantity::Nanoohm;
 use quantity::Ratio;
+use text::Fault;
+use text::Holds;
 use text::LONGEST_LINE;
+use text::MOST_COLUMNS;
 use text::after_id;
+use text::fault_in;
 use text::name_at;
 use text::number_at;
 use text::signed_at;
+
+const COLUMNS: usize = 9;
 
 // `names` is how many bytes the id and the law take, with the comma after each: they stand at the line's start.
 pub struct ReadingRow {
@@ -23,7 +32,38 @@ pub struct ReadingRow {
 
 pub enum ReadingParsed {
     Row(ReadingRow),
-    IllFormed,
+    NoRow(Fault),
+}
+
+// What the columns hold, and then room for more.
+pub fn reading_columns() -> [Holds; MOST_COLUMNS]
+    ensures { λ r. ⌜ AreHeld columns r ⌝ }
+{
+    [
+        Holds::Id,
+        Holds::Name,
+        Holds::Natural(DIGITS),
+        Holds::Natural(DIGITS),
+        Holds::Signed(DIGITS),
+        Holds::Signed(DIGITS),
+        Holds::Signed(DIGITS),
+        Holds::Signed(DIGITS),
+        Holds::Natural(DIGITS),
+        Holds::Id,
+        Holds::Id,
+        Holds::Id,
+        Holds::Id,
+        Holds::Id,
+        Holds::Id,
+        Holds::Id,
+    ]
+}
+
+fn no_row(line: &[u8]) -> ReadingParsed
+    requires { ⌜ wellFormed columns (now line) ≡ false ⌝ }
+    ensures { λ x. ⌜ stated x ≡ parsedAs (now (line .entry)) ⌝ }
+{
+    ReadingParsed::NoRow(fault_in(line, reading_columns(), COLUMNS))
 }
 
 // What a line says, without its CRLF. After a field that breaks its rule the next one starts past every offset, so every later one breaks its rule too.
@@ -31,7 +71,7 @@ pub fn parse_reading(line: &[u8]) -> ReadingParsed
     ensures { λ x. ⌜ stated x ≡ parsedAs (now (line .entry)) ⌝ }
 {
     if LONGEST_LINE < line.len() {
-        return ReadingParsed::IllFormed;
+        return no_row(line);
     }
     let law = name_at(line, after_id(line));
     let r = number_at(line, law.next, DIGITS);
@@ -42,7 +82,7 @@ pub fn parse_reading(line: &[u8]) -> ReadingParsed
     let d = signed_at(line, c.next, DIGITS);
     let wal = number_at(line, d.next, DIGITS);
     if wal.next != line.len() + 1 {
-        return ReadingParsed::IllFormed;
+        return no_row(line);
     }
     ReadingParsed::Row(ReadingRow {
         names: law.next,

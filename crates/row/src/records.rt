@@ -1,14 +1,23 @@
 // A row of a list of records: id, subrange and a ratio for each cell.
 ghost use mathlib.Core.Path.{_≡_};
-ghost use Rattle.row.specs.Records.{stated, parsedAs};
+ghost use mathlib.Core.Bool.{false};
+ghost use Rattle.text.specs.Columns.{wellFormed};
+ghost use Rattle.row.specs.Parsing.{AreHeld};
+ghost use Rattle.row.specs.Records.{columns, stated, parsedAs};
 use crate::digits::DIGITS;
 use certificate::Record;
 use law::Name;
 use quantity::Ratio;
+use text::Fault;
+use text::Holds;
 use text::LONGEST_LINE;
+use text::MOST_COLUMNS;
 use text::after_id;
+use text::fault_in;
 use text::name_at;
 use text::number_at;
+
+const COLUMNS: usize = 9;
 
 // `names` is how many bytes the first two fields take, with the comma after each.
 pub struct RecordRow {
@@ -18,7 +27,38 @@ pub struct RecordRow {
 
 pub enum RecordParsed {
     Row(RecordRow),
-    IllFormed,
+    NoRow(Fault),
+}
+
+// What the columns hold, and then room for more.
+pub fn record_columns() -> [Holds; MOST_COLUMNS]
+    ensures { λ r. ⌜ AreHeld columns r ⌝ }
+{
+    [
+        Holds::Id,
+        Holds::Name,
+        Holds::Natural(DIGITS),
+        Holds::Natural(DIGITS),
+        Holds::Natural(DIGITS),
+        Holds::Natural(DIGITS),
+        Holds::Natural(DIGITS),
+        Holds::Natural(DIGITS),
+        Holds::Natural(DIGITS),
+        Holds::Id,
+        Holds::Id,
+        Holds::Id,
+        Holds::Id,
+        Holds::Id,
+        Holds::Id,
+        Holds::Id,
+    ]
+}
+
+fn no_row(line: &[u8]) -> RecordParsed
+    requires { ⌜ wellFormed columns (now line) ≡ false ⌝ }
+    ensures { λ x. ⌜ stated x ≡ parsedAs (now (line .entry)) ⌝ }
+{
+    RecordParsed::NoRow(fault_in(line, record_columns(), COLUMNS))
 }
 
 // What a line says, without its CRLF.
@@ -26,7 +66,7 @@ pub fn parse_record(line: &[u8]) -> RecordParsed
     ensures { λ x. ⌜ stated x ≡ parsedAs (now (line .entry)) ⌝ }
 {
     if LONGEST_LINE < line.len() {
-        return RecordParsed::IllFormed;
+        return no_row(line);
     }
     let subrange = name_at(line, after_id(line));
     let hg = number_at(line, subrange.next, DIGITS);
@@ -37,7 +77,7 @@ pub fn parse_record(line: &[u8]) -> RecordParsed
     let al = number_at(line, zn.next, DIGITS);
     let ag = number_at(line, al.next, DIGITS);
     if ag.next != line.len() + 1 {
-        return RecordParsed::IllFormed;
+        return no_row(line);
     }
     RecordParsed::Row(RecordRow {
         names: subrange.next,

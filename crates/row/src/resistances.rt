@@ -1,18 +1,26 @@
 // A row of a list of records given as resistances: id, subrange and, for each cell, its resistance and the water cell's.
 ghost use mathlib.Core.Path.{_≡_};
+ghost use mathlib.Core.Bool.{false};
 ghost use Prim.Native.Nat.{_≤_};
 ghost use lib.ListN.{length};
-ghost use Rattle.text.specs.Columns.{longestLine};
-ghost use Rattle.row.specs.Resistances.{pairAt, stated, parsedAs};
+ghost use Rattle.text.specs.Columns.{longestLine, wellFormed};
+ghost use Rattle.row.specs.Parsing.{AreHeld};
+ghost use Rattle.row.specs.Resistances.{columns, pairAt, stated, parsedAs};
 use crate::digits::DIGITS;
 use certificate::Pair;
 use certificate::Resistances;
 use law::Name;
 use quantity::Nanoohm;
+use text::Fault;
+use text::Holds;
 use text::LONGEST_LINE;
+use text::MOST_COLUMNS;
 use text::after_id;
+use text::fault_in;
 use text::name_at;
 use text::number_at;
+
+const COLUMNS: usize = 16;
 
 // `names` is how many bytes the first two fields take, with the comma after each.
 pub struct ResistancesRow {
@@ -22,7 +30,38 @@ pub struct ResistancesRow {
 
 pub enum ResistancesParsed {
     Row(ResistancesRow),
-    IllFormed,
+    NoRow(Fault),
+}
+
+// What the columns hold, and then room for more.
+pub fn resistances_columns() -> [Holds; MOST_COLUMNS]
+    ensures { λ r. ⌜ AreHeld columns r ⌝ }
+{
+    [
+        Holds::Id,
+        Holds::Name,
+        Holds::Natural(DIGITS),
+        Holds::Natural(DIGITS),
+        Holds::Natural(DIGITS),
+        Holds::Natural(DIGITS),
+        Holds::Natural(DIGITS),
+        Holds::Natural(DIGITS),
+        Holds::Natural(DIGITS),
+        Holds::Natural(DIGITS),
+        Holds::Natural(DIGITS),
+        Holds::Natural(DIGITS),
+        Holds::Natural(DIGITS),
+        Holds::Natural(DIGITS),
+        Holds::Natural(DIGITS),
+        Holds::Natural(DIGITS),
+    ]
+}
+
+fn no_row(line: &[u8]) -> ResistancesParsed
+    requires { ⌜ wellFormed columns (now line) ≡ false ⌝ }
+    ensures { λ x. ⌜ stated x ≡ parsedAs (now (line .entry)) ⌝ }
+{
+    ResistancesParsed::NoRow(fault_in(line, resistances_columns(), COLUMNS))
 }
 
 // The two resistances of a cell, and where the next field starts.
@@ -51,7 +90,7 @@ pub fn parse_resistances(line: &[u8]) -> ResistancesParsed
     ensures { λ x. ⌜ stated x ≡ parsedAs (now (line .entry)) ⌝ }
 {
     if LONGEST_LINE < line.len() {
-        return ResistancesParsed::IllFormed;
+        return no_row(line);
     }
     let subrange = name_at(line, after_id(line));
     let hg = pair_at(line, subrange.next);
@@ -62,7 +101,7 @@ pub fn parse_resistances(line: &[u8]) -> ResistancesParsed
     let al = pair_at(line, zn.next);
     let ag = pair_at(line, al.next);
     if ag.next != line.len() + 1 {
-        return ResistancesParsed::IllFormed;
+        return no_row(line);
     }
     let mercury = hg.pair;
     let gallium = ga.pair;

@@ -1,14 +1,23 @@
 // A row of a list of tolerance tests: id, class, t, r and r0.
 ghost use mathlib.Core.Path.{_≡_};
-ghost use Rattle.row.specs.Tolerances.{stated, parsedAs};
+ghost use mathlib.Core.Bool.{false};
+ghost use Rattle.text.specs.Columns.{wellFormed};
+ghost use Rattle.row.specs.Parsing.{AreHeld};
+ghost use Rattle.row.specs.Tolerances.{columns, stated, parsedAs};
 use crate::digits::DIGITS;
 use quantity::Celsius;
 use quantity::Nanoohm;
+use text::Fault;
+use text::Holds;
 use text::LONGEST_LINE;
+use text::MOST_COLUMNS;
 use text::after_id;
+use text::fault_in;
 use text::letter_at;
 use text::number_at;
 use text::signed_at;
+
+const COLUMNS: usize = 5;
 
 // `names` is how many bytes the first two fields take, with the comma after each.
 pub struct ToleranceRow {
@@ -21,7 +30,38 @@ pub struct ToleranceRow {
 
 pub enum ToleranceParsed {
     Row(ToleranceRow),
-    IllFormed,
+    NoRow(Fault),
+}
+
+// What the columns hold, and then room for more.
+pub fn tolerance_columns() -> [Holds; MOST_COLUMNS]
+    ensures { λ r. ⌜ AreHeld columns r ⌝ }
+{
+    [
+        Holds::Id,
+        Holds::Letter,
+        Holds::Signed(DIGITS),
+        Holds::Natural(DIGITS),
+        Holds::Natural(DIGITS),
+        Holds::Id,
+        Holds::Id,
+        Holds::Id,
+        Holds::Id,
+        Holds::Id,
+        Holds::Id,
+        Holds::Id,
+        Holds::Id,
+        Holds::Id,
+        Holds::Id,
+        Holds::Id,
+    ]
+}
+
+fn no_row(line: &[u8]) -> ToleranceParsed
+    requires { ⌜ wellFormed columns (now line) ≡ false ⌝ }
+    ensures { λ x. ⌜ stated x ≡ parsedAs (now (line .entry)) ⌝ }
+{
+    ToleranceParsed::NoRow(fault_in(line, tolerance_columns(), COLUMNS))
 }
 
 // What a line says, without its CRLF.
@@ -29,14 +69,14 @@ pub fn parse_tolerance(line: &[u8]) -> ToleranceParsed
     ensures { λ x. ⌜ stated x ≡ parsedAs (now (line .entry)) ⌝ }
 {
     if LONGEST_LINE < line.len() {
-        return ToleranceParsed::IllFormed;
+        return no_row(line);
     }
     let class = letter_at(line, after_id(line));
     let t = signed_at(line, class.next, DIGITS);
     let r = number_at(line, t.next, DIGITS);
     let r0 = number_at(line, r.next, DIGITS);
     if r0.next != line.len() + 1 {
-        return ToleranceParsed::IllFormed;
+        return no_row(line);
     }
     ToleranceParsed::Row(ToleranceRow {
         names: class.next,

@@ -9,5 +9,6 @@ pub mod Decimals
 pub mod Round
 pub mod Overs
 pub mod Rows
+pub mod Faults
 pub mod Names
 pub mod Adding

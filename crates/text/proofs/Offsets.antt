@@ -17,7 +17,7 @@ use Rattle.text.specs.declared.field.Scanned.{Scanned}
 use Rattle.text.specs.declared.number.Signed.{Signed}
 use Rattle.text.specs.Fields.{field, every, digit, sized}
 use Rattle.text.specs.Numbers.{mostDigits, isNumber, isSigned, digitsAfter, valueOf, signedOf}
-use Rattle.text.specs.Scanned.{nowhere, nextOf, scannedIf, scannedIn, scannedAt, signedIf, signedIn, signedAt}
+use Rattle.text.specs.Scanned.{nowhere, nextOf, nextAt, scannedIf, scannedIn, scannedAt, signedIf, signedIn, signedAt}
 use Rattle.text.proofs.Digits.{digit-bounds}
 
 -- ---- how large
@@ -135,12 +135,18 @@ module _ (line : List ℕ) (from : ℕ) (h : from ≤ length line) where
   pub next-within : (rule : List ℕ → Bool) (n : ℕ) → n ≡ nextOf rule (take (length line - from) (drop from line)) → from + n ≤ length line + 2
   next-within rule n e = omega (arith, e ∙ ap (nextOf rule) (part-is line from), next-most rule (drop from line), length-drop from line)
 
+  pub next-from : (rule : List ℕ → Bool) (n : ℕ) → n ≡ nextOf rule (take (length line - from) (drop from line)) → from + n ≡ nextAt rule line from
+  next-from rule n e = rw (le-leb from (length line) h, e, part-is line from)
+
   pub scanned-from : (rule : List ℕ → Bool) (value : List ℕ → ℕ) (x : Scanned) → x ≡ scannedIn rule value (take (length line - from) (drop from line))
       → record { value = x .value; next = from + x .next } ≡ scannedAt rule value line from
   scanned-from rule value x e = rw (le-leb from (length line) h, e, part-is line from)
 
   pub signed-from : (most : ℕ) (x : Signed) → x ≡ signedIn most (take (length line - from) (drop from line)) → record { value = x .value; next = from + x .next } ≡ signedAt most line from
   signed-from most x e = rw (le-leb from (length line) h, e, part-is line from)
+
+pub next-past : (rule : List ℕ → Bool) (line : List ℕ) (from : ℕ) → length line < from → nowhere (length line) ≡ nextAt rule line from
+next-past rule line from h = rw (lt-leb from (length line) h)
 
 pub scanned-past : (rule : List ℕ → Bool) (value : List ℕ → ℕ) (line : List ℕ) (from : ℕ) → length line < from → scannedIf false 0 0 line ≡ scannedAt rule value line from
 scanned-past rule value line from h = rw (lt-leb from (length line) h)

@@ -18,8 +18,12 @@ use Rattle.text.specs.declared.field.Scanned.{Scanned}
 use Rattle.text.specs.declared.number.Signed.{Signed}
 use Rattle.text.specs.Fields.{field, later, fields}
 use Rattle.text.specs.Numbers.{isNumber, valueOf}
+use Rattle.text.specs.declared.columns.Holds.{Holds}
+use Rattle.text.specs.declared.columns.Holds.the-variants as holds
+use Rattle.text.specs.declared.columns.Fault.{Fault}
+use Rattle.text.specs.declared.columns.Fault.the-variants.{Miscounted, Broken}
 use Rattle.text.specs.Columns as columns
-use Rattle.text.specs.Columns.{Holds, Column, _holds_, isId, isName, isLetter, longestLine, rule, ruleOf, Fault, firstBroken, faultOf, isNone, wellFormed, Value, firstByte, saidBy, values}
+use Rattle.text.specs.Columns.{Column, _holds_, isId, isName, isLetter, longestLine, rule, ruleOf, firstBroken, faultOf, isNone, wellFormed, Value, firstByte, saidBy, values}
 use Rattle.text.specs.Scanned.{nowhere, nextOf, nextAt, scannedAt, signedAt}
 
 -- ---- one field for each column, which keeps its rule
@@ -44,7 +48,7 @@ kept-none n (c ∷ cs) [] = rw (ne-eqb 0 (suc (length cs)) (λ e. omega arith))
 kept-none n (c ∷ cs) (f ∷ fs) = rw (eqb-suc (length fs) (length cs)) (by (rule c f) (eqb (length fs) (length cs)) (kept-none (n + 1) cs fs))
   where
     by : (t u : Bool) → keep cs fs ≡ (if not u then false else isNone (firstBroken (n + 1) cs fs))
-        → (t && keep cs fs) ≡ (if not u then false else isNone (if t then firstBroken (n + 1) cs fs else some (columns.broken n)))
+        → (t && keep cs fs) ≡ (if not u then false else isNone (if t then firstBroken (n + 1) cs fs else some (Broken n)))
     by true u e = e
     by false true e = refl
     by false false e = refl
@@ -57,7 +61,7 @@ is-none false this that = refl
 pub row-is : (cs : List Column) (line : List ℕ) → length line ≤ longestLine → wellFormed cs line ≡ keep cs (fields line)
 unfolding wellFormed faultOf
 row-is cs line h =
-    rw (le-ltb longestLine (length line) h, is-none (not (eqb (length (fields line)) (length cs))) columns.miscounted (firstBroken 1 cs (fields line)))
+    rw (le-ltb longestLine (length line) h, is-none (not (eqb (length (fields line)) (length cs))) Miscounted (firstBroken 1 cs (fields line)))
     (sym (kept-none 1 cs (fields line)))
 
 pub too-long : (cs : List Column) (line : List ℕ) → longestLine < length line → wellFormed cs line ≡ false
@@ -103,7 +107,7 @@ module _ (line : List ℕ) where
   past-line : (rule : List ℕ → Bool) (from : ℕ) → length line < from → nextAt rule line from ≡ nowhere (length line)
   past-line rule from h = rw (lt-leb from (length line) h)
 
-  breaks : (rule : List ℕ → Bool) (from : ℕ) → from ≤ length line → rule (field (drop from line)) ≡ false → nextAt rule line from ≡ nowhere (length line)
+  pub breaks : (rule : List ℕ → Bool) (from : ℕ) → from ≤ length line → rule (field (drop from line)) ≡ false → nextAt rule line from ≡ nowhere (length line)
   breaks rule from h e = rw (le-leb from (length line) h, e) (rw (length-drop from line) (omega arith))
 
   pub keeps : (rule : List ℕ → Bool) (from : ℕ) → from ≤ length line → rule (field (drop from line)) ≡ true → nextAt rule line from ≡ from + (length (field (drop from line)) + 1)
@@ -142,11 +146,11 @@ module _ (line : List ℕ) where
 
   -- ---- what a scan by the columns says
   saidAt : Holds → ℕ → Value
-  saidAt columns.id from = columns.word (field (drop from line))
-  saidAt columns.name from = columns.named (scannedAt isName nameOf line from .value)
-  saidAt columns.oneLetter from = columns.byte (scannedAt isLetter firstByte line from .value)
-  saidAt (columns.natural most) from = columns.count (scannedAt (isNumber most) valueOf line from .value)
-  saidAt (columns.signed most) from = columns.integer (signedAt most line from .value)
+  saidAt holds.Id from = columns.word (field (drop from line))
+  saidAt holds.Name from = columns.named (scannedAt isName nameOf line from .value)
+  saidAt holds.Letter from = columns.byte (scannedAt isLetter firstByte line from .value)
+  saidAt (holds.Natural most) from = columns.count (scannedAt (isNumber most) valueOf line from .value)
+  saidAt (holds.Signed most) from = columns.integer (signedAt most line from .value)
 
   saidFrom : List Column → ℕ → List Value
   saidFrom [] from = []
@@ -154,11 +158,11 @@ module _ (line : List ℕ) where
 
   said-is : (what : Holds) (from : ℕ) → from ≤ length line → ruleOf what (field (drop from line)) ≡ true → saidAt what from ≡ columns.saidAs what (field (drop from line))
   unfolding saidAt
-  said-is columns.id from h k = refl
-  said-is columns.name from h k = rw (le-leb from (length line) h, k)
-  said-is columns.oneLetter from h k = rw (le-leb from (length line) h, k)
-  said-is (columns.natural most) from h k = rw (le-leb from (length line) h, k)
-  said-is (columns.signed most) from h k = rw (le-leb from (length line) h, k)
+  said-is holds.Id from h k = refl
+  said-is holds.Name from h k = rw (le-leb from (length line) h, k)
+  said-is holds.Letter from h k = rw (le-leb from (length line) h, k)
+  said-is (holds.Natural most) from h k = rw (le-leb from (length line) h, k)
+  said-is (holds.Signed most) from h k = rw (le-leb from (length line) h, k)
 
   kept-says : (cs : List Column) (from : ℕ) → from ≤ length line → keep cs (fields (drop from line)) ≡ true → saidFrom cs from ≡ saidBy cs (fields (drop from line))
   unfolding saidFrom
@@ -184,15 +188,15 @@ module _ (line : List ℕ) where
   pub data Scan : List Column → ℕ → ℕ → List Value → Type 0 where
     done : {from : ℕ} → Scan [] from from []
     an-id : {title : String} {cs : List Column} {from end : ℕ} {vs : List Value} (next : ℕ) → next ≡ nextAt isId line from → Scan cs next end vs
-        → Scan ((title holds columns.id) ∷ cs) from end (columns.word (field (drop from line)) ∷ vs)
+        → Scan ((title holds holds.Id) ∷ cs) from end (columns.word (field (drop from line)) ∷ vs)
     a-name : {title : String} {cs : List Column} {from end : ℕ} {vs : List Value} (x : Scanned) → x ≡ scannedAt isName nameOf line from → Scan cs (x .next) end vs
-        → Scan ((title holds columns.name) ∷ cs) from end (columns.named (x .value) ∷ vs)
+        → Scan ((title holds holds.Name) ∷ cs) from end (columns.named (x .value) ∷ vs)
     a-letter : {title : String} {cs : List Column} {from end : ℕ} {vs : List Value} (x : Scanned) → x ≡ scannedAt isLetter firstByte line from → Scan cs (x .next) end vs
-        → Scan ((title holds columns.oneLetter) ∷ cs) from end (columns.byte (x .value) ∷ vs)
+        → Scan ((title holds holds.Letter) ∷ cs) from end (columns.byte (x .value) ∷ vs)
     a-natural : {title : String} {most : ℕ} {cs : List Column} {from end : ℕ} {vs : List Value} (x : Scanned) → x ≡ scannedAt (isNumber most) valueOf line from → Scan cs (x .next) end vs
-        → Scan ((title holds columns.natural most) ∷ cs) from end (columns.count (x .value) ∷ vs)
+        → Scan ((title holds holds.Natural most) ∷ cs) from end (columns.count (x .value) ∷ vs)
     a-signed : {title : String} {most : ℕ} {cs : List Column} {from end : ℕ} {vs : List Value} (x : Signed) → x ≡ signedAt most line from → Scan cs (x .next) end vs
-        → Scan ((title holds columns.signed most) ∷ cs) from end (columns.integer (x .value) ∷ vs)
+        → Scan ((title holds holds.Signed most) ∷ cs) from end (columns.integer (x .value) ∷ vs)
 
   scan-ends : {cs : List Column} {from end : ℕ} {vs : List Value} → Scan cs from end vs → end ≡ endOf cs from
   unfolding endOf

@@ -10,17 +10,13 @@ use lib.IntN.{ℤ, pos}
 use lib.ListN.{length, getD}
 use Rattle.whole.specs.Choice.{if_then_else_}
 use Rattle.whole.specs.Text.{ascii, nameOf}
+use Rattle.text.specs.declared.columns.Holds.{Holds}
+use Rattle.text.specs.declared.columns.Holds.the-variants.{Id, Name, Letter, Natural, Signed}
+use Rattle.text.specs.declared.columns.Fault.{Fault}
+use Rattle.text.specs.declared.columns.Fault.the-variants.{TooLong, Miscounted, Broken}
 use Rattle.text.specs.Fields.{fields, sized, every, digit, capital, small, letter}
 use Rattle.text.specs.Joined.{joined}
 use Rattle.text.specs.Numbers.{isNumber, isSigned, valueOf, signedOf}
-
--- What a column holds: an id, a name, a letter, a number from 0 up or a number of either sign, of at most so many digits.
-pub data Holds : Type 0 where
-  id : Holds
-  name : Holds
-  oneLetter : Holds
-  natural : ℕ → Holds
-  signed : ℕ → Holds
 
 -- A column: the title that the header has for it, and what it holds.
 infix 70 _holds_
@@ -29,6 +25,13 @@ pub data Column : Type 0 where
 
 abbrev pub title : Column → List ℕ
 title (text holds what) = ascii text
+
+abbrev pub held : Column → Holds
+held (text holds what) = what
+
+-- The column at a place, counted from 0; past the last, an id without a title.
+abbrev pub columnAt : ℕ → List Column → Column
+columnAt place columns = getD columns place ("" holds Id)
 
 -- The header of a list: its titles, in their order.
 abbrev pub headerOf : List Column → List ℕ
@@ -57,36 +60,31 @@ isLetter s = sized 1 1 s && every letter s
 
 -- The rule of a field.
 abbrev pub ruleOf : Holds → List ℕ → Bool
-ruleOf id = isId
-ruleOf name = isName
-ruleOf oneLetter = isLetter
-ruleOf (natural most) = isNumber most
-ruleOf (signed most) = isSigned most
+ruleOf Id = isId
+ruleOf Name = isName
+ruleOf Letter = isLetter
+ruleOf (Natural most) = isNumber most
+ruleOf (Signed most) = isSigned most
 
 abbrev pub rule : Column → List ℕ → Bool
-rule (text holds what) = ruleOf what
+rule column = ruleOf (held column)
 
 -- The longest line, without its CRLF.
 abbrev pub longestLine : ℕ
 longestLine = 200
 
 -- ---- why a line is no row
--- It is too long, it has not as many fields as there are columns, or the field with this number, counted from 1, breaks its rule.
-pub data Fault : Type 0 where
-  tooLong : Fault
-  miscounted : Fault
-  broken : ℕ → Fault
-
 -- The first field from the left that breaks its rule, the first of these fields being number n.
 abbrev pub firstBroken : ℕ → List Column → List (List ℕ) → Option Fault
 firstBroken n [] fs = none
 firstBroken n (c ∷ cs) [] = none
-firstBroken n (c ∷ cs) (f ∷ fs) = if rule c f then firstBroken (n + 1) cs fs else some (broken n)
+firstBroken n (c ∷ cs) (f ∷ fs) = if rule c f then firstBroken (n + 1) cs fs else some (Broken n)
 
+-- A line is too long; or it has not as many fields as there are columns; or one of them breaks its rule.
 unfoldable pub faultOf : List Column → List ℕ → Option Fault
 faultOf columns line =
-    if ltb longestLine (length line) then some tooLong
-    else if not (eqb (length (fields line)) (length columns)) then some miscounted
+    if ltb longestLine (length line) then some TooLong
+    else if not (eqb (length (fields line)) (length columns)) then some Miscounted
     else firstBroken 1 columns (fields line)
 
 abbrev pub isNone : Option Fault → Bool
@@ -110,14 +108,14 @@ abbrev pub firstByte : List ℕ → ℕ
 firstByte s = getD s 0 0
 
 abbrev pub saidAs : Holds → List ℕ → Value
-saidAs id f = word f
-saidAs name f = named (nameOf f)
-saidAs oneLetter f = byte (firstByte f)
-saidAs (natural most) f = count (valueOf f)
-saidAs (signed most) f = integer (signedOf f)
+saidAs Id f = word f
+saidAs Name f = named (nameOf f)
+saidAs Letter f = byte (firstByte f)
+saidAs (Natural most) f = count (valueOf f)
+saidAs (Signed most) f = integer (signedOf f)
 
 abbrev pub said : Column → List ℕ → Value
-said (text holds what) = saidAs what
+said column = saidAs (held column)
 
 -- What each field says, by its column.
 abbrev pub saidBy : List Column → List (List ℕ) → List Value

@@ -1,9 +1,13 @@
--- What is promised of numbers: written and read back, and read and written back, they are the same.
+-- What is promised of numbers: written and read back, and read and written back, they are the same; and of the field that a fault names.
 use mathlib.Core.Path.{_≡_}
-use mathlib.Core.Bool.{true}
+use mathlib.Core.Bool.{true, false}
 use mathlib.Core.List.{List}
-use Prim.Native.Nat.{ℕ, _^_, _<_, _≤_}
+use mathlib.Core.Option.{some}
+use Prim.Native.Nat.{ℕ, _-_, _^_, _<_, _≤_}
+use lib.ListN.{length}
 use lib.IntN.{ℤ, natAbs}
+use Rattle.text.specs.declared.columns.Fault.the-variants.{Broken}
+use Rattle.text.specs.Columns.{Column, columnAt, rule, fieldAt, faultOf}
 use Rattle.text.specs.Numbers.{isNumber, valueOf, isSigned, signedOf}
 use Rattle.text.specs.Decimal.{decimal, signedDecimal}
 
@@ -20,3 +24,13 @@ NumberWrittenBack = (most : ℕ) (s : List ℕ) → isNumber most s ≡ true →
 
 abbrev pub SignedWrittenBack : Type 0
 SignedWrittenBack = (most : ℕ) (s : List ℕ) → isSigned most s ≡ true → signedDecimal (signedOf s) ≡ s
+
+-- The field with this number, counted from 1, breaks its rule, and none left of it does.
+pub record FirstToBreak (columns : List Column) (line : List ℕ) (number : ℕ) : Type 0 where
+  pub from-one : 1 ≤ number
+  pub to-last : number ≤ length columns
+  pub breaks : rule (columnAt (number - 1) columns) (fieldAt (number - 1) line) ≡ false
+  pub before : (place : ℕ) → place < number - 1 → rule (columnAt place columns) (fieldAt place line) ≡ true
+
+abbrev pub FirstNamed : Type 0
+FirstNamed = (columns : List Column) (line : List ℕ) (number : ℕ) → faultOf columns line ≡ some (Broken number) → FirstToBreak columns line number

@@ -2,8 +2,8 @@
 -- field starts one past the comma that ends this one, or one past the end of the line, where there is none. Where the field breaks its rule, the next one starts
 -- past even that, so that every later one breaks its rule too.
 use mathlib.Core.List.{List, [], _∷_}
-use mathlib.Core.Bool.{Bool, true, _&&_}
-use Prim.Native.Nat.{ℕ, _+_}
+use mathlib.Core.Bool.{Bool, true, not, _&&_}
+use Prim.Native.Nat.{ℕ, suc, _+_}
 use Prim.Native.Char.{code}
 use lib.Dec.{leb, ltb, eqb}
 use lib.IntN.{ℤ, pos}
@@ -12,7 +12,12 @@ use Rattle.whole.specs.Choice.{if_then_else_}
 use Rattle.text.specs.declared.field.Scanned.{Scanned}
 use Rattle.text.specs.declared.number.Signed.{Signed}
 use Rattle.text.specs.Fields.{field}
-use Rattle.text.specs.Numbers.{isSigned, signedOf}
+use Rattle.text.specs.declared.columns.Holds.{Holds}
+use Rattle.text.specs.declared.columns.Holds.the-variants as holds
+use Rattle.text.specs.declared.columns.Fault.{Fault}
+use Rattle.text.specs.declared.columns.Fault.the-variants.{TooLong, Miscounted, Broken}
+use Rattle.text.specs.Numbers.{mostDigits, isSigned, signedOf}
+use Rattle.text.specs.Columns.{longestLine, ruleOf}
 
 -- A field ends here: before a comma or at the end of the line.
 abbrev pub ends : List ℕ → Bool
@@ -57,3 +62,30 @@ scannedAt rule value line from = record { value = if leb from (length line) then
 
 abbrev pub signedAt : ℕ → List ℕ → ℕ → Signed
 signedAt most line from = record { value = if leb from (length line) then signedIn most (drop from line) .value else pos 0; next = nextAt (isSigned most) line from }
+
+-- ---- why a line is no row, as it is found
+abbrev pub commasIn : List ℕ → ℕ
+commasIn [] = 0
+commasIn (b ∷ s) = if eqb b (code ",") then suc (commasIn s) else commasIn s
+
+-- The number of the first field after which none starts, that at the offset being number n; one past the last where there is no such field.
+abbrev pub firstLost : List ℕ → ℕ → List Holds → ℕ → ℕ
+firstLost line n [] from = n
+firstLost line n (what ∷ others) from =
+    let next = nextAt (ruleOf what) line from in
+    if leb next (length line + 1) then firstLost line (n + 1) others next else n
+
+-- The fault of a line that is no row of columns that hold these.
+abbrev pub faultFound : List Holds → List ℕ → Fault
+faultFound held line =
+    if ltb longestLine (length line) then TooLong
+    else if not (eqb (commasIn line + 1) (length held)) then Miscounted
+    else Broken (firstLost line 1 held 0)
+
+-- A column's numbers fit 64 bits.
+abbrev pub isNarrow : Holds → Bool
+isNarrow holds.Id = true
+isNarrow holds.Name = true
+isNarrow holds.Letter = true
+isNarrow (holds.Natural most) = leb most mostDigits
+isNarrow (holds.Signed most) = leb most mostDigits

@@ -1,10 +1,15 @@
 // Text: the fields of a line read, and numbers written into a lent buffer. It knows no thermometry.
+mod columns;
 mod decimal;
 mod field;
 mod name;
 mod number;
 mod writing;
 
+pub use columns::Fault;
+pub use columns::Holds;
+pub use columns::MOST_COLUMNS;
+pub use columns::fault_in;
 pub use decimal::put_digits;
 pub use decimal::width;
 pub use field::LONGEST_LINE;

@@ -5,7 +5,7 @@ ghost use lib.ListN.{length};
 ghost use Rattle.whole.specs.Text.{nameOf};
 ghost use Rattle.text.specs.Fields.{letter as isLetterByte};
 ghost use Rattle.text.specs.Columns.{longestLine, idByte, isId, isName, isLetter, firstByte};
-ghost use Rattle.text.specs.Scanned.{closesAt, nextIf, nextOf, scannedIn, scannedAt};
+ghost use Rattle.text.specs.Scanned.{closesAt, nextIf, nextOf, nextAt, scannedIn, scannedAt};
 use crate::field;
 use crate::field::Scanned;
 
@@ -49,6 +49,17 @@ pub fn after_id(s: &[u8]) -> usize
         i += 1;
     }
     id_ended(s, i)
+}
+
+// Where the field after the id that starts at an offset of the line starts.
+pub fn id_at(line: &[u8], from: usize) -> usize
+    requires { ⌜ length (now line) ≤ longestLine ⌝ }
+    ensures { λ r. ⌜ r ≡ nextAt isId (now (line .entry)) from ⌝ }
+{
+    if from <= line.len() {
+        return from + after_id(&line[from..]);
+    }
+    field::no_field(line)
 }
 
 fn name_in(s: &[u8]) -> Scanned

@@ -1,17 +1,43 @@
-// What is said of a wrong header, for people: what was read, what was expected, and the usual reason where one is seen.
-use crate::first::First;
+// The headers of lists, and what is said of a wrong one, for people: what was read, what was expected, and the usual reason where one is seen.
+use crate::kept::Kept;
+use crate::kept::nothing_yet;
 use crate::people::say;
 use crate::people::say_name;
 use list::Desk;
+use list::Kind;
+
+// The header of a list of a kind.
+pub fn header_of(kind: Kind) -> Kept {
+    let none = nothing_yet();
+    match kind {
+        Kind::Readings => none.and(b"id,law,r,r0,a,b,c,d,wal"),
+        Kind::Records => none.and(b"id,subrange,hg,ga,in,sn,zn,al,ag"),
+        Kind::Resistances => {
+            none.and(b"id,subrange,hg,hg0,ga,ga0,in,in0,sn,sn0,zn,zn0,al,al0,ag,ag0")
+        }
+        Kind::Steps => none.and(b"id,law,t,a,b,c,d,wal"),
+        Kind::Tolerances => none.and(b"id,class,t,r,r0"),
+    }
+}
+
+fn say_header(kind: Kind) -> bool {
+    let header = header_of(kind);
+    say_line(header, header.length());
+    say(b"\n")
+}
 
 fn say_expected(desk: Desk) -> bool {
     match desk {
-        Desk::Launch => say(b"  expected: id,law,r,r0,a,b,c,d,wal\n"),
+        Desk::Launch => say(b"  expected: ") & say_header(Kind::Readings),
         Desk::Bench => {
-            say(b"  expected: id,subrange,hg,ga,in,sn,zn,al,ag\n")
-                & say(b"        or: id,subrange,hg,hg0,ga,ga0,in,in0,sn,sn0,zn,zn0,al,al0,ag,ag0\n")
-                & say(b"        or: id,law,t,a,b,c,d,wal\n")
-                & say(b"        or: id,class,t,r,r0\n")
+            say(b"  expected: ")
+                & say_header(Kind::Records)
+                & say(b"        or: ")
+                & say_header(Kind::Resistances)
+                & say(b"        or: ")
+                & say_header(Kind::Steps)
+                & say(b"        or: ")
+                & say_header(Kind::Tolerances)
         }
     }
 }
@@ -28,7 +54,7 @@ fn shown(b: u8) -> u8 {
 }
 
 // How many bytes of the first line there are, without a CR before its LF; all that was kept where it has no LF.
-fn line_length(first: First) -> usize {
+fn line_length(first: Kept) -> usize {
     let mut i = 0;
     while i < first.count {
         if first.at(i) == b'\n' {
@@ -44,7 +70,7 @@ fn line_length(first: First) -> usize {
     i
 }
 
-fn say_line(first: First, length: usize) {
+fn say_line(first: Kept, length: usize) {
     let mut i = 0;
     while i < length {
         let one = [shown(first.at(i))];
@@ -53,7 +79,7 @@ fn say_line(first: First, length: usize) {
     }
 }
 
-fn has(first: First, length: usize, b: u8) -> bool {
+fn has(first: Kept, length: usize, b: u8) -> bool {
     let mut i = 0;
     while i < length {
         if first.at(i) == b {
@@ -65,21 +91,21 @@ fn has(first: First, length: usize, b: u8) -> bool {
 }
 
 // Whether the first line ends with a LF that no CR stands before.
-fn ends_by_feed_alone(first: First, length: usize) -> bool {
+fn ends_by_feed_alone(first: Kept, length: usize) -> bool {
     first.at(length) == b'\n'
 }
 
-fn begins_by_mark(first: First) -> bool {
+fn begins_by_mark(first: Kept) -> bool {
     first.at(0) == 0xef && first.at(1) == 0xbb && first.at(2) == 0xbf
 }
 
-fn is_wide(first: First) -> bool {
+fn is_wide(first: Kept) -> bool {
     let a = first.at(0);
     let b = first.at(1);
     a == 0xff && b == 0xfe || a == 0xfe && b == 0xff
 }
 
-fn say_reason(first: First, length: usize) -> bool {
+fn say_reason(first: Kept, length: usize) -> bool {
     if first.count == 0 {
         return say(b"  the input is empty\n");
     }
@@ -109,7 +135,7 @@ fn say_reason(first: First, length: usize) -> bool {
 }
 
 // Says what is wrong with the header that an input began with.
-pub fn say_wrong(desk: Desk, first: First) {
+pub fn say_wrong(desk: Desk, first: Kept) {
     let length = line_length(first);
     say_name(desk);
     say(b"the first line is not the header of a list that it answers\n");

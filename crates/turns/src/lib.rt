@@ -1,9 +1,12 @@
 // What the programs over lists share: what they were asked, the turns from standard input to standard output, and what is said to people: of a wrong header, of
 // rows, and how many there were.
 mod asked;
-mod first;
+mod faults;
+mod fields;
 mod header;
+mod kept;
 mod people;
+mod reasons;
 mod remarks;
 mod rows;
 mod status;

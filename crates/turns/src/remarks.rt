@@ -5,15 +5,20 @@ use law::Cell;
 use lines::MOST_HELD;
 use list::Kind;
 use quantity::Refusal;
+use row::ForwardParsed;
+use row::ReadingParsed;
 use row::RecordParsed;
 use row::ResistancesParsed;
+use row::ToleranceParsed;
+use text::Fault;
 
 // So many first bytes of a line are looked at: all that is held of a long one but its last.
 const LOOKED_AT: usize = MOST_HELD - 1;
 
-// The line holds a LF without CR; or it is a record that is refused for a cell, each case by one test, or for a coefficient.
+// The line holds a LF without CR; or it is no row; or it is a record that is refused for a cell, each case by one test, or for a coefficient.
 pub enum Remark {
     LoneFeed,
+    NoRow(Fault),
     Outside(Cell),
     Above(Cell),
     NotMeasured(Cell),
@@ -65,13 +70,34 @@ fn of_record(answer: CertificateAnswer, faulty: FaultyCell) -> Remark {
     }
 }
 
+fn of_reading(line: &[u8]) -> Remark {
+    match row::parse_reading(line) {
+        ReadingParsed::Row(_) => Remark::Nothing,
+        ReadingParsed::NoRow(fault) => Remark::NoRow(fault),
+    }
+}
+
+fn of_step(line: &[u8]) -> Remark {
+    match row::parse_forward(line) {
+        ForwardParsed::Row(_) => Remark::Nothing,
+        ForwardParsed::NoRow(fault) => Remark::NoRow(fault),
+    }
+}
+
+fn of_tolerance(line: &[u8]) -> Remark {
+    match row::parse_tolerance(line) {
+        ToleranceParsed::Row(_) => Remark::Nothing,
+        ToleranceParsed::NoRow(fault) => Remark::NoRow(fault),
+    }
+}
+
 fn of_ratios(line: &[u8]) -> Remark {
     match row::parse_record(line) {
         RecordParsed::Row(row) => {
             let cells = row.cells;
             of_record(cells.certify(), cells.faulty_cell())
         }
-        RecordParsed::IllFormed => Remark::Nothing,
+        RecordParsed::NoRow(fault) => Remark::NoRow(fault),
     }
 }
 
@@ -81,7 +107,7 @@ fn of_resistances(line: &[u8]) -> Remark {
             let cells = row.cells;
             of_record(cells.certify(), cells.faulty_cell())
         }
-        ResistancesParsed::IllFormed => Remark::Nothing,
+        ResistancesParsed::NoRow(fault) => Remark::NoRow(fault),
     }
 }
 
@@ -91,10 +117,10 @@ pub fn remark_on(kind: Kind, line: &[u8]) -> Remark {
         return Remark::LoneFeed;
     }
     match kind {
-        Kind::Readings => Remark::Nothing,
+        Kind::Readings => of_reading(line),
         Kind::Records => of_ratios(line),
         Kind::Resistances => of_resistances(line),
-        Kind::Steps => Remark::Nothing,
-        Kind::Tolerances => Remark::Nothing,
+        Kind::Steps => of_step(line),
+        Kind::Tolerances => of_tolerance(line),
     }
 }

@@ -92,7 +92,7 @@ impl Counts {
         if said == MOST_SAID {
             say_more(desk, MOST_SAID);
         } else {
-            say_of_line(desk, counted.lines, remark);
+            say_of_line(desk, counted.lines, kind, line, remark);
         }
         Counts {
             lines: counted.lines,

@@ -3,9 +3,9 @@ ghost use Prim.Native.Nat.{_≤_};
 ghost use lib.ListN.{length};
 ghost use Rattle.list.specs.declared.kinds.Desk.{Desk};
 ghost use Rattle.list.specs.Kinds.{room};
-use crate::first::First;
-use crate::first::nothing_yet;
 use crate::header::say_wrong;
+use crate::kept::Kept;
+use crate::kept::nothing_yet;
 use crate::rows::Counts;
 use crate::rows::nothing_said;
 use libc::STDIN_FILENO;
@@ -25,12 +25,12 @@ pub enum Next {
 // The state after a turn, the first bytes of the input, the lines so far, and what comes next.
 pub struct Turn {
     pub state: State,
-    pub first: First,
+    pub first: Kept,
     pub counts: Counts,
     pub next: Next,
 }
 
-fn after(state: State, first: First, counts: Counts, next: Next) -> Turn {
+fn after(state: State, first: Kept, counts: Counts, next: Next) -> Turn {
     Turn {
         state,
         first,
@@ -72,7 +72,7 @@ fn next_of(stage: Stage) -> Next {
 }
 
 // The first bytes, with those of a chunk that comes before the header is known.
-fn first_with(first: First, stage: Stage, chunk: &[u8]) -> First {
+fn first_with(first: Kept, stage: Stage, chunk: &[u8]) -> Kept {
     match stage {
         Stage::Header(_) => first.and(chunk),
         Stage::Rows(_) => first,
@@ -84,7 +84,7 @@ fn first_with(first: First, stage: Stage, chunk: &[u8]) -> First {
 fn drain(
     desk: Desk,
     begun: State,
-    first: First,
+    first: Kept,
     so_far: Counts,
     chunk: &[u8],
     out: &mut [u8],
@@ -116,7 +116,7 @@ fn drain(
 fn take_turn(
     desk: Desk,
     state: State,
-    first: First,
+    first: Kept,
     counts: Counts,
     buf: &mut [u8],
     out: &mut [u8],
@@ -138,7 +138,7 @@ fn take_turn(
 }
 
 // Whether the input that has ended had a right header; if not, that is said.
-fn had_header(desk: Desk, stage: Stage, first: First, code: u8) -> bool {
+fn had_header(desk: Desk, stage: Stage, first: Kept, code: u8) -> bool {
     match stage {
         Stage::Header(_) => {
             if code == 0 {
@@ -153,7 +153,7 @@ fn had_header(desk: Desk, stage: Stage, first: First, code: u8) -> bool {
 }
 
 // What is still due at the end of the input. Whether all was well.
-fn finish(desk: Desk, state: State, first: First, counts: Counts, out: &mut [u8]) -> bool
+fn finish(desk: Desk, state: State, first: Kept, counts: Counts, out: &mut [u8]) -> bool
     requires { ⌜ room Desk.Bench ≤ length (now out) ⌝ }
 {
     let stage = state.stage;

@@ -1,10 +1,12 @@
 // The words for what is to be said of a line.
+use crate::faults::say_fault;
 use crate::people::say;
 use crate::people::say_count;
 use crate::people::say_name;
 use crate::remarks::Remark;
 use law::Cell;
 use list::Desk;
+use list::Kind;
 use quantity::Refusal;
 
 fn say_cell(cell: Cell) -> bool {
@@ -35,9 +37,10 @@ fn say_lone_feed() -> bool {
         & say(b"to mend the list: sed 's/\\r*$/\\r/;$a\\' LIST\n")
 }
 
-fn say_remark(remark: Remark) -> bool {
+fn say_remark(kind: Kind, line: &[u8], remark: Remark) -> bool {
     match remark {
         Remark::LoneFeed => say_lone_feed(),
+        Remark::NoRow(fault) => say_fault(kind, line, fault),
         Remark::Outside(cell) => say_of_cell(
             Refusal::ResistanceOutside,
             cell,
@@ -65,8 +68,8 @@ fn say_remark(remark: Remark) -> bool {
 }
 
 // Says it of the line with this number, counted from 1, the header included.
-pub fn say_of_line(desk: Desk, number: u64, remark: Remark) -> bool {
-    say_name(desk) & say(b"line ") & say_count(number) & say(b": ") & say_remark(remark)
+pub fn say_of_line(desk: Desk, number: u64, kind: Kind, line: &[u8], remark: Remark) -> bool {
+    say_name(desk) & say(b"line ") & say_count(number) & say(b": ") & say_remark(kind, line, remark)
 }
 
 // That nothing is said of the lines after the first so many.

@@ -1,9 +1,9 @@
--- `bench::certificates::place_resistances` meets its contract: a well-formed line is answered as its row is, any other by 10.
-use mathlib.Core.Path.{sym, ap, _∙_}
-use Rattle.text.specs.Decimal.{decimal}
+-- `bench::certificates::place_resistances` meets its contract: a row is answered as it is, any other line by its fault.
+use mathlib.Core.Path.{refl, sym, ap, _∙_}
+use mathlib.Core.List.{[], _∷_}
 use Rattle.row.specs.Resistances.{columns, rowOf, stated}
-use Rattle.row.proofs.Parsed.{is-row, is-none}
-use Rattle.line.proofs.Answers.{placed-ill-formed}
+use Rattle.row.proofs.Parsed.{is-row, is-fault}
+use Rattle.line.proofs.Answers.{placed-fault}
 use Rattle.bench.specs.Certificates.{resistances}
 use borrow.Author.Needs.{needs}
 use Rattle.bench.proofs.certificates.place_resistances.Statement.{statement}
@@ -21,17 +21,14 @@ answer-pairs-requires c κs =
     let row = c .before .before .row .given in
     is-row columns rowOf (parsed .before .before .before .args .line .now) (row .0 .0) (sym (ap stated (row .1)) ∙ parsed .parse-resistances .ensures)
 
-enum-told : tie.Need-enum-told
-enum-told c = search needs
+enum-known-fault : tie.Need-enum-known-fault
+enum-known-fault c = search needs
 
-number-requires : tie.Need-number-requires
-number-requires c κs = search needs
+slice-aggregate-place-fault : tie.Need-slice-aggregate-place-fault
+slice-aggregate-place-fault c = search needs
 
-slice-aggregate-place : tie.Need-slice-aggregate-place
-slice-aggregate-place c = search needs
-
-place-requires : tie.Need-place-requires
-place-requires c κs = search needs
+place-fault-requires : tie.Need-place-fault-requires
+place-fault-requires c κs = search needs
 
 same-length : tie.Need-same-length
 same-length c = search needs
@@ -43,14 +40,14 @@ same-length-2 : tie.Need-same-length-2
 same-length-2 c = search needs
 
 returns-2 : tie.Need-returns-2
-unfolding decimal
 returns-2 c =
     let place = c .before .before in
-    let numbered = place .before .before .before in
-    let parsed = numbered .before .before .before in
+    let told = place .before .before .before .before in
+    let parsed = told .before .before in
     let start = parsed .before .before .before in
-    let none = sym (ap stated (numbered .before .enum-told .given .1)) ∙ parsed .parse-resistances .ensures in
-    placed-ill-formed resistances (start .args .line .now) (start .args .out .now) (place .place .last .1 .1 .0) (place .place .result) (numbered .number .result) (is-none columns rowOf (start .args .line .now) none) (numbered .number .ensures) (place .place .ensures)
+    let fault = told .fault .given in
+    let found = is-fault columns rowOf (start .args .line .now) (fault .0 .0) (sym (ap stated (fault .1)) ∙ parsed .parse-resistances .ensures) in
+    placed-fault resistances "a" ("b" ∷ "c" ∷ "d" ∷ "wal" ∷ []) refl (start .args .line .now) (start .args .out .now) (place .place-fault .last .1 .1 .0) (place .place-fault .result) (fault .0 .0) found (place .place-fault .ensures)
 
 pub place-resistances-spec : {M : Type 1} → statement M
 place-resistances-spec =
@@ -59,10 +56,9 @@ place-resistances-spec =
     parse-resistances-requires
     enum-known-row
     answer-pairs-requires
-    enum-told
-    number-requires
-    slice-aggregate-place
-    place-requires
+    enum-known-fault
+    slice-aggregate-place-fault
+    place-fault-requires
     same-length
     returns
     same-length-2

@@ -2,7 +2,7 @@
 use mathlib.Core.Path.{refl, sym, subst}
 use mathlib.Core.List.{[]}
 use Rattle.quantity.specs.Refusals.{numberOf}
-use Rattle.quantity.specs.declared.refusal.Refusal.the-variants.{IllFormed}
+use Rattle.quantity.specs.declared.refusal.Refusal.the-variants.{WrongHeader}
 use Rattle.list.specs.declared.state.Stage.{Stage}
 use Rattle.list.specs.Kinds.{wrongHeader}
 use Rattle.list.specs.Feeding.{EndedWith}
@@ -32,7 +32,7 @@ returns c =
     let told = wrong .before .before .before in
     let s = told .before .before .before .args in
     subst (λ (g : Stage). EndedWith g [] (s .out .now) (wrong .wrong-header .last .1 .0) (wrong .wrong-header .result .answer)) (sym (told .stage .given .1))
-    (numberOf IllFormed, wrongHeader (told .stage .given .0 .0), (refl, refl), wrong .wrong-header .ensures .0)
+    (numberOf WrongHeader, wrongHeader (told .stage .given .0 .0), (refl, refl), wrong .wrong-header .ensures .0)
 
 returns-2 : tie.Need-returns-2
 returns-2 c =

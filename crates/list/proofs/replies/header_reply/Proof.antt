@@ -2,7 +2,7 @@
 use mathlib.Core.Path.{refl, sym, ap, _∙_, subst}
 use mathlib.Core.Option.{Option}
 use Rattle.quantity.specs.Refusals.{numberOf}
-use Rattle.quantity.specs.declared.refusal.Refusal.the-variants.{IllFormed}
+use Rattle.quantity.specs.declared.refusal.Refusal.the-variants.{WrongHeader}
 use Rattle.line.specs.Kinds.{outputHeader}
 use Rattle.list.specs.declared.kinds.Kind.{Kind}
 use Rattle.list.specs.Kinds.{kindOf, statedKind, wrongHeader}
@@ -49,7 +49,7 @@ returns-2 c =
     let headed = told .before .before in
     let s = headed .before .before .before .args in
     let is = sym (ap statedKind (told .enum-told .given .1)) ∙ headed .headed-by .ensures in
-    (numberOf IllFormed, wrongHeader (s .desk), subst (λ (o : Option Kind). HeaderDue (s .desk) o (numberOf IllFormed) (wrongHeader (s .desk))) is (refl, refl), reply .wrong-header .ensures, ap afterHeader is)
+    (numberOf WrongHeader, wrongHeader (s .desk), subst (λ (o : Option Kind). HeaderDue (s .desk) o (numberOf WrongHeader) (wrongHeader (s .desk))) is (refl, refl), reply .wrong-header .ensures, ap afterHeader is)
 
 pub header-reply-spec : {M : Type 1} → statement M
 header-reply-spec =

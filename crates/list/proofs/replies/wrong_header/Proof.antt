@@ -1,8 +1,8 @@
--- `list::replies::wrong_header` meets its contract: the first kind's header and ill-formed line.
+-- `list::replies::wrong_header` meets its contract: the first kind's header, and the line that says so.
 use mathlib.Core.Path.{sym, subst}
 use Prim.Native.Nat.{ℕ}
 use Rattle.quantity.specs.Refusals.{numberOf}
-use Rattle.quantity.specs.declared.refusal.Refusal.the-variants.{IllFormed}
+use Rattle.quantity.specs.declared.refusal.Refusal.the-variants.{WrongHeader}
 use Rattle.text.specs.Decimal.{decimal}
 use Rattle.line.specs.Lent.{PlacedAs}
 use Rattle.list.specs.declared.kinds.Desk.{Desk}
@@ -43,7 +43,7 @@ returns c =
     let told = place .before .before .before in
     let numbered = told .before .before in
     let s = numbered .before .before .args in
-    subst (λ (d : Desk). PlacedAs (numberOf IllFormed) (wrongHeader d) (s .out .now) (place .place .last .1 .1 .0) (place .place .result)) (sym (told .enum-told .given .1))
+    subst (λ (d : Desk). PlacedAs (numberOf WrongHeader) (wrongHeader d) (s .out .now) (place .place .last .1 .1 .0) (place .place .result)) (sym (told .enum-told .given .1))
     (subst (λ (n : ℕ). PlacedAs n (wrongHeader Launch) (s .out .now) (place .place .last .1 .1 .0) (place .place .result)) (numbered .number .ensures) (place .place .ensures))
 
 same-length-2 : tie.Need-same-length-2
@@ -56,7 +56,7 @@ returns-2 c =
     let told = place .before .before .before in
     let numbered = told .before .before in
     let s = numbered .before .before .args in
-    subst (λ (d : Desk). PlacedAs (numberOf IllFormed) (wrongHeader d) (s .out .now) (place .place2 .last .1 .1 .0) (place .place2 .result)) (sym (told .enum-told2 .given .1))
+    subst (λ (d : Desk). PlacedAs (numberOf WrongHeader) (wrongHeader d) (s .out .now) (place .place2 .last .1 .1 .0) (place .place2 .result)) (sym (told .enum-told2 .given .1))
     (subst (λ (n : ℕ). PlacedAs n (wrongHeader Bench) (s .out .now) (place .place2 .last .1 .1 .0) (place .place2 .result)) (numbered .number .ensures) (place .place2 .ensures))
 
 pub wrong-header-spec : {M : Type 1} → statement M

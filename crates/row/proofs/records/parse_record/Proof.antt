@@ -9,10 +9,10 @@ use Rattle.text.specs.Fields.{field}
 use mathlib.Core.Bool.{true}
 use Rattle.text.specs.Columns.{Value, wellFormed, longestLine, count, named, word, isId, isName, namesLength}
 use Rattle.text.specs.Scanned.{nextAt}
-use Rattle.text.proofs.Rows.{Scan, done, a-name, a-natural, an-id, from-start}
+use Rattle.text.proofs.Rows.{too-long, Scan, scan-no-row, done, a-name, a-natural, an-id, from-start}
 use Rattle.text.proofs.Names.{names-end}
 use Rattle.row.specs.Records.{columns, rowFrom}
-use Rattle.row.proofs.Read.{not-read, read-none, read-row}
+use Rattle.row.proofs.Read.{read-row}
 use borrow.Author.Needs.{needs}
 use Rattle.row.proofs.records.parse_record.Statement.{statement}
 use Rattle.row.proofs.records.parse_record.Tie as tie
@@ -53,8 +53,11 @@ short c = c .before .before .before .before .before .before .before .before .bef
 names : (c : tie.After-number-at7) → wellFormed columns (line c) ≡ true → c .before .before .before .before .before .before .before .name-at .result .next ≡ namesLength (line c)
 names c w = ap (λ (x : Scanned). x .next) (c .before .before .before .before .before .before .before .name-at .ensures) ∙ ap (nextAt isName (line c)) (c .before .before .before .before .before .before .before .before .after-id .ensures ∙ from-start (line c) isId) ∙ names-end _ _ _ _ (line c) w
 
+no-row-requires : tie.Need-no-row-requires
+no-row-requires c κs = too-long columns (c .before .before .args .line .now) (c .if1 .taken)
+
 returns : tie.Need-returns
-returns c = not-read columns rowFrom (c .before .before .args .line .now) (c .if1 .taken)
+returns c = c .no-row .ensures
 
 after-id-requires : tie.Need-after-id-requires
 after-id-requires c κs = search needs
@@ -86,8 +89,11 @@ number-at-requires-7 c κs = search needs
 add-if2 : tie.Need-add-if2
 add-if2 c = search needs
 
+no-row-requires-2 : tie.Need-no-row-requires-2
+no-row-requires-2 c κs = scan-no-row (line (c .before .before)) (scan (c .before .before)) (short (c .before .before)) (λ e. omega (arith, c .if2 .taken, e))
+
 returns-2 : tie.Need-returns-2
-returns-2 c = read-none columns rowFrom (line (c .before .before)) (scan (c .before .before)) (short (c .before .before)) (λ e. omega (arith, c .if2 .taken, e))
+returns-2 c = c .no-row2 .ensures
 
 returns-3 : tie.Need-returns-3
 returns-3 c =
@@ -98,6 +104,7 @@ pub parse-record-spec : {M : Type 1} → statement M
 parse-record-spec =
     tie.close
     (tie.spec
+    no-row-requires
     returns
     after-id-requires
     name-at-requires
@@ -109,5 +116,6 @@ parse-record-spec =
     number-at-requires-6
     number-at-requires-7
     add-if2
+    no-row-requires-2
     returns-2
     returns-3)

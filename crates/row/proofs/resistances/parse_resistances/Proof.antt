@@ -9,10 +9,10 @@ use Rattle.text.specs.declared.field.Scanned.{Scanned}
 use Rattle.text.specs.Fields.{field}
 use Rattle.text.specs.Columns.{Value, wellFormed, longestLine, word, named, count, isId, isName, namesLength}
 use Rattle.text.specs.Scanned.{nextAt}
-use Rattle.text.proofs.Rows.{Scan, done, an-id, a-name, from-start}
+use Rattle.text.proofs.Rows.{too-long, Scan, scan-no-row, done, an-id, a-name, from-start}
 use Rattle.text.proofs.Names.{names-end}
 use Rattle.row.specs.Resistances.{columns, rowFrom}
-use Rattle.row.proofs.Read.{not-read, read-none, read-row}
+use Rattle.row.proofs.Read.{read-row}
 use Rattle.row.proofs.Pairs.{a-pair}
 use borrow.Author.Needs.{needs}
 use Rattle.row.proofs.resistances.parse_resistances.Statement.{statement}
@@ -61,8 +61,11 @@ short c = c .before .before .before .before .before .before .before .before .bef
 names : (c : tie.After-pair-at7) → wellFormed columns (line c) ≡ true → c .before .before .before .before .before .before .before .name-at .result .next ≡ namesLength (line c)
 names c w = ap (λ (x : Scanned). x .next) (c .before .before .before .before .before .before .before .name-at .ensures) ∙ ap (nextAt isName (line c)) (c .before .before .before .before .before .before .before .before .after-id .ensures ∙ from-start (line c) isId) ∙ names-end _ _ _ _ (line c) w
 
+no-row-requires : tie.Need-no-row-requires
+no-row-requires c κs = too-long columns (c .before .before .args .line .now) (c .if1 .taken)
+
 returns : tie.Need-returns
-returns c = not-read columns rowFrom (c .before .before .args .line .now) (c .if1 .taken)
+returns c = c .no-row .ensures
 
 after-id-requires : tie.Need-after-id-requires
 after-id-requires c κs = search needs
@@ -94,8 +97,11 @@ pair-at-requires-7 c κs = search needs
 add-if2 : tie.Need-add-if2
 add-if2 c = omega (arith, short c)
 
+no-row-requires-2 : tie.Need-no-row-requires-2
+no-row-requires-2 c κs = scan-no-row (line (c .before .before)) (scan (c .before .before)) (short (c .before .before)) (λ e. omega (arith, c .if2 .taken, e))
+
 returns-2 : tie.Need-returns-2
-returns-2 c = read-none columns rowFrom (line (c .before .before)) (scan (c .before .before)) (short (c .before .before)) (λ e. omega (arith, c .if2 .taken, e))
+returns-2 c = c .no-row2 .ensures
 
 returns-3 : tie.Need-returns-3
 returns-3 c =
@@ -106,6 +112,7 @@ pub parse-resistances-spec : {M : Type 1} → statement M
 parse-resistances-spec =
     tie.close
     (tie.spec
+    no-row-requires
     returns
     after-id-requires
     name-at-requires
@@ -117,5 +124,6 @@ parse-resistances-spec =
     pair-at-requires-6
     pair-at-requires-7
     add-if2
+    no-row-requires-2
     returns-2
     returns-3)

@@ -12,11 +12,11 @@ use Rattle.text.specs.Fields.{field}
 use mathlib.Core.Bool.{true}
 use Rattle.text.specs.Columns.{Value, wellFormed, longestLine, byte, count, integer, word, isId, isLetter, namesLength}
 use Rattle.text.specs.Scanned.{nextAt}
-use Rattle.text.proofs.Rows.{Scan, done, a-letter, a-natural, a-signed, an-id, from-start}
+use Rattle.text.proofs.Rows.{too-long, Scan, scan-no-row, done, a-letter, a-natural, a-signed, an-id, from-start}
 use Rattle.text.proofs.Names.{names-end}
 use Rattle.text.proofs.Fields.{letter-small}
 use Rattle.row.specs.Tolerances.{columns, rowFrom}
-use Rattle.row.proofs.Read.{not-read, read-none, read-row}
+use Rattle.row.proofs.Read.{read-row}
 use borrow.Author.Needs.{needs}
 use Rattle.row.proofs.tolerances.parse_tolerance.Statement.{statement}
 use Rattle.row.proofs.tolerances.parse_tolerance.Tie as tie
@@ -49,8 +49,11 @@ short c = c .before .before .before .before .before .if1 .left
 names : (c : tie.After-number-at2) → wellFormed columns (line c) ≡ true → c .before .before .before .letter-at .result .next ≡ namesLength (line c)
 names c w = ap (λ (x : Scanned). x .next) (c .before .before .before .letter-at .ensures) ∙ ap (nextAt isLetter (line c)) (c .before .before .before .before .after-id .ensures ∙ from-start (line c) isId) ∙ names-end _ _ _ _ (line c) w
 
+no-row-requires : tie.Need-no-row-requires
+no-row-requires c κs = too-long columns (c .before .before .args .line .now) (c .if1 .taken)
+
 returns : tie.Need-returns
-returns c = not-read columns rowFrom (c .before .before .args .line .now) (c .if1 .taken)
+returns c = c .no-row .ensures
 
 after-id-requires : tie.Need-after-id-requires
 after-id-requires c κs = search needs
@@ -70,8 +73,11 @@ number-at-requires-2 c κs = search needs
 add-if2 : tie.Need-add-if2
 add-if2 c = search needs
 
+no-row-requires-2 : tie.Need-no-row-requires-2
+no-row-requires-2 c κs = scan-no-row (line (c .before .before)) (scan (c .before .before)) (short (c .before .before)) (λ e. omega (arith, c .if2 .taken, e))
+
 returns-2 : tie.Need-returns-2
-returns-2 c = read-none columns rowFrom (line (c .before .before)) (scan (c .before .before)) (short (c .before .before)) (λ e. omega (arith, c .if2 .taken, e))
+returns-2 c = c .no-row2 .ensures
 
 cast-t9 : tie.Need-cast-t9
 cast-t9 c = record { fits = omega (arith, letter-small (line (c .before .before .before)) (c .before .before .before .before .before .before .before .after-id .result), ap (λ (x : Scanned). x .value) (c .before .before .before .before .before .before .letter-at .ensures)) }
@@ -86,6 +92,7 @@ pub parse-tolerance-spec : {M : Type 1} → statement M
 parse-tolerance-spec =
     tie.close
     (tie.spec
+    no-row-requires
     returns
     after-id-requires
     letter-at-requires
@@ -93,6 +100,7 @@ parse-tolerance-spec =
     number-at-requires
     number-at-requires-2
     add-if2
+    no-row-requires-2
     returns-2
     cast-t9
     returns-3)

@@ -1,9 +1,9 @@
--- `turns::first::First::and` is safe and ends: each turn uses a byte of the chunk.
+-- `turns::kept::Kept::and` is safe and ends: each turn uses a byte of the chunk.
 use lib.ListN.{length}
 use Prim.Native.Nat.{_-_, _≤_}
 use borrow.Author.Needs.{needs}
-use Rattle.turns.proofs.first.First.and.Statement.{statement}
-use Rattle.turns.proofs.first.First.and.Tie as tie
+use Rattle.turns.proofs.kept.Kept.and.Statement.{statement}
+use Rattle.turns.proofs.kept.Kept.and.Tie as tie
 
 abbrev Inv-loop : tie.InvT-loop
 Inv-loop chunk kept₀ i₀ kept i = i ≤ length chunk

@@ -1,0 +1,94 @@
+// What the columns of a list hold, and why a line is no row of them.
+ghost use mathlib.Core.Path.{_≡_};
+ghost use mathlib.Core.Bool.{true};
+ghost use Prim.Native.Nat.{_≤_};
+ghost use lib.ListN.{length, take};
+ghost use Rattle.whole.specs.Any.{every};
+ghost use Rattle.text.specs.Columns.{longestLine, ruleOf};
+ghost use Rattle.text.specs.Scanned.{nextAt, commasIn, firstLost, faultFound, isNarrow};
+use crate::field::LONGEST_LINE;
+use crate::name::id_at;
+use crate::name::letter_at;
+use crate::name::name_at;
+use crate::number::number_at;
+use crate::number::signed_at;
+
+// The most columns that a list has.
+pub const MOST_COLUMNS: usize = 16;
+
+// An id, a name, a letter, a number from 0 up or a number of either sign, each of at most so many digits.
+pub enum Holds {
+    Id,
+    Name,
+    Letter,
+    Natural(usize),
+    Signed(usize),
+}
+
+// The line is too long, it has not as many fields as there are columns, or the field with this number, counted from 1, breaks its rule.
+pub enum Fault {
+    TooLong,
+    Miscounted,
+    Broken(usize),
+}
+
+fn commas_in(line: &[u8]) -> usize
+    requires { ⌜ length (now line) ≤ longestLine ⌝ }
+    ensures { λ r. ⌜ r ≡ commasIn (now (line .entry)) ⌝ }
+{
+    let mut commas = 0;
+    let mut i = line.len();
+    while i > 0 {
+        i -= 1;
+        if line[i] == b',' {
+            commas += 1;
+        }
+    }
+    commas
+}
+
+// Where the field after one that starts at an offset of the line starts.
+fn next_field(line: &[u8], from: usize, held: Holds) -> usize
+    requires { ⌜ (length (now line) ≤ longestLine) × (isNarrow held ≡ true) ⌝ }
+    ensures { λ r. ⌜ r ≡ nextAt (ruleOf held) (now (line .entry)) from ⌝ }
+{
+    match held {
+        Holds::Id => id_at(line, from),
+        Holds::Name => name_at(line, from).next,
+        Holds::Letter => letter_at(line, from).next,
+        Holds::Natural(most) => number_at(line, from, most).next,
+        Holds::Signed(most) => signed_at(line, from, most).next,
+    }
+}
+
+// The first of so many columns whose field breaks its rule, counted from 1.
+fn first_broken(line: &[u8], columns: [Holds; MOST_COLUMNS], count: usize) -> usize
+    requires { ⌜ (length (now line) ≤ longestLine) × (count ≤ length columns) × (every isNarrow columns ≡ true) ⌝ }
+    ensures { λ r. ⌜ r ≡ firstLost (now (line .entry)) 1 (take count columns) 0 ⌝ }
+{
+    let mut from = 0;
+    let mut kept = 0;
+    while kept < count {
+        let next = next_field(line, from, columns[kept]);
+        if line.len() + 1 < next {
+            return kept + 1;
+        }
+        from = next;
+        kept += 1;
+    }
+    kept + 1
+}
+
+// Why a line is no row of the first `count` columns.
+pub fn fault_in(line: &[u8], columns: [Holds; MOST_COLUMNS], count: usize) -> Fault
+    requires { ⌜ (count ≤ length columns) × (every isNarrow columns ≡ true) ⌝ }
+    ensures { λ r. ⌜ r ≡ faultFound (take count columns) (now (line .entry)) ⌝ }
+{
+    if LONGEST_LINE < line.len() {
+        return Fault::TooLong;
+    }
+    if commas_in(line) + 1 != count {
+        return Fault::Miscounted;
+    }
+    Fault::Broken(first_broken(line, columns, count))
+}
