@@ -28,7 +28,14 @@ from tempfile import TemporaryFile
 from threading import Event, Timer
 
 from damage import CR
-from inputs import AT_ONCE, example, long_answers, said_inputs, whole_inputs
+from inputs import (
+    AT_ONCE,
+    example,
+    ill_formed_inputs,
+    long_answers,
+    said_inputs,
+    whole_inputs,
+)
 from launchlist_cases import stdin
 from lists import LINE_END, PROGRAMS, answer
 from messages import COUNTED, first_unlike, said, shown
@@ -421,6 +428,11 @@ BYTE_BY_BYTE = (
     "CR before CRLF",
     "line of 200 bytes, then good",
     "last line of 201 bytes without CRLF",
+    "ill-formed lines, good ones between",
+    "line long, without CRLF",
+    "line short of a field, without CRLF",
+    "line of a field more, without CRLF",
+    "line with an empty field, without CRLF",
 )
 
 IN_PIECES = (
@@ -450,6 +462,7 @@ ON_TERMINAL = (
     "300 lines joined by LF",
     "refused lines",
     "51 refused lines, 50 joined by LF",
+    "ill-formed lines, good ones between",
     "big list with faults",
 )
 
@@ -458,7 +471,8 @@ UNHEARD = (
     "300 lines joined by LF",
     "51 refused lines, 50 joined by LF",
     "100 lines joined by LF, one without CRLF",
-    "long answers, each 75 lines a fault",
+    "101 ill-formed lines",
+    "long answers, empty lines",
     "big list with faults",
 )
 
@@ -470,6 +484,7 @@ STATUS = {
     "header without CRLF": b"0",
     "refused lines": b"0",
     "rows joined by LF": b"0",
+    "101 ill-formed lines": b"0",
     "51 refused lines, 50 joined by LF": b"0",
     "big list with faults": b"0",
     "empty": b"1",
@@ -549,6 +564,9 @@ def slow_checks(one):
         size = 1 if len(data) < SMALL else FEW
         slow = pieces(data, size)
         yield f"{name}, by {size} bytes", check_list, data, slow, PAUSE
+    for name, data in ill_formed_inputs(one):
+        slow = pieces(data, FEW)
+        yield f"{name}, by {FEW} bytes", check_list, data, slow, PAUSE
 
 
 def launchlist_checks():
