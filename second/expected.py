@@ -15,6 +15,7 @@ from tempfile import TemporaryDirectory
 import cards
 import damage
 import launchlist_cases
+import long_round
 import reading
 import register
 import register_cases
@@ -34,9 +35,11 @@ from samples import GOOD
 
 ROOT = Path(__file__).resolve().parent.parent
 
-# The example lists, which are written by hand, and the program that answers each.
+# The example lists and the program that answers each. They are written by hand, but
+# for the long one.
 EXAMPLES = {
     "round": "launchlist",
+    "long-round": "launchlist",
     "records": "benchlist",
     "resistances": "benchlist",
     "steps": "benchlist",
@@ -65,6 +68,7 @@ MAKERS = {
     "crates/launchlist/stdout": launchlist_cases.stdout,
     "crates/benchlist/stdin": partial(example_list, "records"),
     "crates/benchlist/stdout": partial(example_answer, "records"),
+    "examples/long-round.csv": long_round.make,
     **{
         f"examples/{name}.answer.csv": partial(example_answer, name)
         for name in EXAMPLES
@@ -257,6 +261,21 @@ def said_of_row(line):
     """What is said of the first line of a list of `launchlist`."""
     made = said("launchlist", LIST_HEAD + line + b"\r\n").decode("ascii")
     return made.removeprefix("launchlist: line 2: ")
+
+
+def refused_in_long_round():
+    """The refused lines of the long example with their answers, by number."""
+    lines = launchlist(long_round.make()).decode("ascii").split("\r\n")
+    numbered = enumerate(lines[1:-1], 2)
+    return {number: line for number, line in numbered if not line.endswith(",0")}
+
+
+SAID_OF_LONG_ROUND = b"""\
+launchlist: line 58: it has more than 200 bytes
+launchlist: line 131: it has 8 fields, and the header has 9
+launchlist: line 212: field 5, a: a leading zero
+launchlist: line 268: field 3, r: a point
+"""
 
 
 JOINED = (
@@ -756,6 +775,16 @@ SELF_CHECKS = (
     ("said of wal", "field 9, wal: a CR\n", said_of_row, row() + b"\r"),
     ("said of two fields", "field 3, r: it is empty\n", said_of_row, row(r="", wal="")),
     ("said of a reading", "", said_of_row, row(law="pt")),
+    (
+        "the long example",
+        {58: TOO_LONG, 131: MISCOUNTED, 212: "?,?,5,14", 268: "?,?,3,14"},
+        refused_in_long_round,
+    ),
+    (
+        "said of the long example",
+        SAID_OF_LONG_ROUND,
+        *(said, "launchlist", long_round.make()),
+    ),
     ("LF alone", FEEDS, reason_of, LIST.replace(b"\r\n", b"\n")),
     *mending_checks(),
     ("an empty list mended", b"", mended, b""),

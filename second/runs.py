@@ -28,6 +28,7 @@ from tempfile import TemporaryFile
 from threading import Event, Timer
 
 from damage import CR
+from expected import EXAMPLES, example_list
 from inputs import (
     AT_ONCE,
     example,
@@ -579,11 +580,22 @@ def launchlist_checks():
         yield f"all lines, by {size} bytes", check_list, every, slow, PAUSE
 
 
+def example_checks(program):
+    """The same of the runs on the example lists."""
+    for name in EXAMPLES:
+        if EXAMPLES[name] == program:
+            data = example_list(name)
+            yield f"examples/{name}.csv", check_list, data, pieces(data, AT_ONCE)
+            slow = pieces(data, FEW)
+            yield f"examples/{name}.csv, slowly", check_list, data, slow, PAUSE
+
+
 def all_list_checks(command):
     for one in PROGRAMS[program_of(command)]:
         checks = chain(list_checks(one), status_checks(one), slow_checks(one))
         for name, *check in checks:
             yield f"{one.name}, {name}", *check
+    yield from example_checks(program_of(command))
     if program_of(command) == "launchlist":
         yield from launchlist_checks()
 
