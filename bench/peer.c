@@ -12,7 +12,7 @@
 #include <string.h>
 #include <unistd.h>
 
-enum { BLOCK = 64 * 1024, LINE_MOST = 200, ID_MOST = 16, LAW_MOST = 8, DIGITS_MOST = 13 };
+enum { BLOCK = 64 * 1024, LINE_MOST = 200, FIELDS = 9, ID_MOST = 16, LAW_MOST = 8, DIGITS_MOST = 13 };
 
 /* Refusals, by their numbers. */
 enum {
@@ -23,7 +23,10 @@ enum {
     BAD_CERTIFICATE = 7,
     BELOW_RANGE = 8,
     ABOVE_RANGE = 9,
-    ILL_FORMED = 10
+    WRONG_HEADER = 10,
+    WRONG_LENGTH = 12,
+    WRONG_COUNT = 13,
+    WRONG_FIELD = 14
 };
 
 static void fail(const char *doing)
@@ -168,31 +171,60 @@ static bool scan_signed(const char **at, char after, int64_t *value)
     return true;
 }
 
-/* The fields of a line that ends with a NUL. A NUL among its bytes ends no field but the last, which must end the line. */
-static bool scan_line(const char *line, size_t length, struct reading *it)
+/* The fields of a line that ends with a NUL. A NUL among its bytes ends no field but the last, which must end the line.
+ * Gives the number of the first field that is not as it must be, or 0. */
+static int scan_fields(const char *line, size_t length, struct reading *it)
 {
     const char *p = line;
-
-    if (length > LINE_MOST)
-        return false;
 
     it->id = p;
     while (isalnum((unsigned char)*p) || *p == '-')
         p++;
     it->id_length = (size_t)(p - it->id);
     if (it->id_length == 0 || it->id_length > ID_MOST || *p++ != ',')
-        return false;
+        return 1;
 
     it->law = p;
     while (islower((unsigned char)*p))
         p++;
     it->law_length = (size_t)(p - it->law);
     if (it->law_length == 0 || it->law_length > LAW_MOST || *p++ != ',')
-        return false;
+        return 2;
 
-    return scan_count(&p, ',', &it->r) && scan_count(&p, ',', &it->r0) && scan_signed(&p, ',', &it->a) &&
-           scan_signed(&p, ',', &it->b) && scan_signed(&p, ',', &it->c) && scan_signed(&p, ',', &it->d) &&
-           scan_count(&p, '\0', &it->wal) && p == line + length + 1;
+    if (!scan_count(&p, ',', &it->r))
+        return 3;
+    if (!scan_count(&p, ',', &it->r0))
+        return 4;
+    if (!scan_signed(&p, ',', &it->a))
+        return 5;
+    if (!scan_signed(&p, ',', &it->b))
+        return 6;
+    if (!scan_signed(&p, ',', &it->c))
+        return 7;
+    if (!scan_signed(&p, ',', &it->d))
+        return 8;
+    return scan_count(&p, '\0', &it->wal) && p == line + length + 1 ? 0 : FIELDS;
+}
+
+static bool has_all_fields(const char *line, size_t length)
+{
+    int commas = 0;
+
+    for (size_t i = 0; i < length; i++)
+        commas += line[i] == ',';
+    return commas + 1 == FIELDS;
+}
+
+/* Scans a line; gives 0 or the number of its refusal, and at WRONG_FIELD the number of the field. The fields of a line
+ * that scans are as many as they must be, so that they are counted in the others only. */
+static int scan_line(const char *line, size_t length, struct reading *it, int32_t *field)
+{
+    if (length > LINE_MOST)
+        return WRONG_LENGTH;
+    *field = scan_fields(line, length, it);
+    if (*field == 0)
+        return ANSWERED;
+    return has_all_fields(line, length) ? WRONG_FIELD : WRONG_COUNT;
 }
 
 /* Laws. A step is 0.1 mK, and steps count from 0 °C. */
@@ -299,31 +331,39 @@ static int read_temperature(const struct reading *it, int32_t *steps)
     return ANSWERED;
 }
 
-static void answer(const char *line, size_t length)
+/* The line of an answer; the number before the code stands where it is given. */
+static void put_answer(const struct reading *it, const int32_t *number, int code)
 {
-    static const char ill_formed[] = "?,?,,10\r\n";
-    struct reading it;
-
     if (BLOCK - out_end < LINE_MOST)
         flush();
-    char *at = out + out_end;
-    if (!scan_line(line, length, &it)) {
-        at = put_bytes(at, ill_formed, sizeof ill_formed - 1);
-    } else {
-        int32_t steps = 0;
-        int code = read_temperature(&it, &steps);
-        at = put_bytes(at, it.id, it.id_length);
-        *at++ = ',';
-        at = put_bytes(at, it.law, it.law_length);
-        *at++ = ',';
-        if (code == ANSWERED)
-            at = put_number(at, steps);
-        *at++ = ',';
-        at = put_number(at, code);
-        *at++ = '\r';
-        *at++ = '\n';
-    }
+    char *at = put_bytes(out + out_end, it->id, it->id_length);
+    *at++ = ',';
+    at = put_bytes(at, it->law, it->law_length);
+    *at++ = ',';
+    if (number != NULL)
+        at = put_number(at, *number);
+    *at++ = ',';
+    at = put_number(at, code);
+    *at++ = '\r';
+    *at++ = '\n';
     out_end = (size_t)(at - out);
+}
+
+/* What is put for an id and a law that could not be read. */
+static const struct reading unread = {.id = "?", .id_length = 1, .law = "?", .law_length = 1};
+
+static void answer(const char *line, size_t length)
+{
+    struct reading it;
+    int32_t field = 0, steps = 0;
+    int code = scan_line(line, length, &it, &field);
+
+    if (code != ANSWERED) {
+        put_answer(&unread, code == WRONG_FIELD ? &field : NULL, code);
+    } else {
+        code = read_temperature(&it, &steps);
+        put_answer(&it, code == ANSWERED ? &steps : NULL, code);
+    }
 }
 
 int main(void)
@@ -335,7 +375,7 @@ int main(void)
 
     out_end = (size_t)(put_bytes(out, header, sizeof header - 1) - out);
     if (!known)
-        answer("", 0); /* an empty line is ill-formed */
+        put_answer(&unread, NULL, WRONG_HEADER);
     else
         while ((line = next_line(&length)) != NULL)
             answer(line, length);

@@ -2,11 +2,30 @@
 header.
 
 Each function is given a list and good lines of it: one, or a function `line` that
-gives one after the other.
+gives one after the other. An ill-formed line comes with the fault that is due by the
+way it is made.
 """
 
+from itertools import combinations
+from typing import NamedTuple
+
+from broken_fields import KEPT, WITH_FEED, broken_fields, due_words
+from cases import CheckFailed
 from draws import ID_BYTES
-from lists import COMMA, LETTER, LISTS
+from field_words import wrong_in
+from lists import (
+    COMMA,
+    LETTER,
+    LINE_MOST,
+    LISTS,
+    WRONG_COUNT,
+    WRONG_FIELD,
+    WRONG_HEADER,
+    WRONG_LENGTH,
+    WRONG_LINE,
+    LineFault,
+)
+from messages import said_of_line
 
 CR = b"\r"
 LF = b"\n"
@@ -174,20 +193,20 @@ JOINS += (COMMA, b" ", b"")
 BEFORE_END = (CR, CR + CR, LF, LF + CR, LF + LF, NUL, b"\x1a")
 AFTER_END = (CR, LF, LF + LF, NUL, BYTE_ORDER_MARK, b" ", b"#")
 
-SEPARATORS = (b";", b"\t", b" ", b", ", b"|", b"\xc2\xa0")
+SEPARATORS = (b";", b"\t", b" ", b"|", b"\xc2\xa0")
 
-# Lines that no list has, beside those made of its own header and answers.
-NO_LINES = (
-    *(COMMA * count for count in (1, 7, 8, 9, 20)),
+# Lines that no list has, beside those made of its own header and answers: of fewer
+# fields than any, and of nine, of which the second is broken.
+FEW_FIELDS = (
     *(CR, LF, LF + CR, NUL, NUL * 9, b" ", b"\t", b"-", b"0", b"?", b'"', b"\x1a"),
-)
-MORE_NO_LINES = (
     b"F1,curve,1000000,0",
     b"# F1,curve",
-    b"curve,F1,138505500000,100000000000,0,0,0,0,0",
-    b"138505500000,100000000000,0,0,0,0,0,F1,curve",
     bytes(range(128, 256)),
     bytes(range(255, 191, -1)),
+)
+NINE_FIELDS = (
+    b"curve,F1,138505500000,100000000000,0,0,0,0,0",
+    b"138505500000,100000000000,0,0,0,0,0,F1,curve",
 )
 
 LENGTHS = (199, 200, 201, 202, 203, 400, 5000)
@@ -200,16 +219,20 @@ def long_id(line, size):
     return b"F" * (size - 1 - len(rest)) + COMMA + rest
 
 
-# Lines of a given number of bytes, made of a good one.
+FIRST = 0
+LAST = -1
+
+# Lines of a given number of bytes, made of a good one, and the field that is broken
+# by that; None where the count of fields is wrong.
 FILLINGS = {
-    "letters": lambda line, size: b"x" * size,
-    "line, then spaces": lambda line, size: line.ljust(size),
-    "line, then zeros": lambda line, size: line.ljust(size, b"0"),
-    "line, then commas": lambda line, size: line.ljust(size, COMMA),
-    "line with a long id": long_id,
-    "letters, then CR": lambda line, size: b"x" * (size - 1) + CR,
-    "letters, then LF": lambda line, size: b"x" * (size - 1) + LF,
-    "letters, then line": lambda line, size: line.rjust(size, b"x"),
+    "letters": (lambda line, size: b"x" * size, None),
+    "line, then spaces": (lambda line, size: line.ljust(size), LAST),
+    "line, then zeros": (lambda line, size: line.ljust(size, b"0"), LAST),
+    "line, then commas": (lambda line, size: line.ljust(size, COMMA), None),
+    "line with a long id": (long_id, FIRST),
+    "letters, then CR": (lambda line, size: b"x" * (size - 1) + CR, None),
+    "letters, then LF": (lambda line, size: b"x" * (size - 1) + LF, None),
+    "letters, then line": (lambda line, size: line.rjust(size, b"x"), FIRST),
 }
 
 LONG_FILLINGS = ("line, then zeros", "letters, then line", "line with a long id")
@@ -238,15 +261,58 @@ def exchanged(fields, place):
     return COMMA.join((*fields[:place], *pair, *fields[place + 2 :]))
 
 
-# Ill-formed lines: the kind of damage, and the line.
+# Ill-formed lines.
+
+
+class Damaged(NamedTuple):
+    """An ill-formed line: the kind of damage, the line, what is wrong with it, and
+    what is to be said of it where that is written by hand."""
+
+    kind: str
+    line: bytes
+    fault: LineFault
+    words: str = None
+
+
+def with_fault(kind, line, fault, words=None):
+    """A damaged line with this fault, unless it is too long: that goes before."""
+    if len(line) > LINE_MOST:
+        return Damaged(kind, line, LineFault(WRONG_LENGTH))
+    return Damaged(kind, line, fault, words)
+
+
+def miscounted(kind, line):
+    return with_fault(kind, line, LineFault(WRONG_COUNT))
+
+
+def broken(kind, line, place, words=None):
+    """A line whose first broken field is this one, counted from 0."""
+    return with_fault(kind, line, LineFault(WRONG_FIELD, place + 1), words)
+
+
+def check_damaged(one, damaged):
+    """That the line is refused, and spoken of, as is due."""
+    found = one.fault_of(damaged.line), said_of_line(one, damaged.line)
+    due = damaged.fault, damaged.words or found[1]
+    if found != due:
+        what = f"{one.name}: {damaged.kind}, {damaged.line}"
+        raise CheckFailed(f"{what} gives {found}, due {due}")
+
+
+def check_words(one, line):
+    """That the field named is the first that there are words for."""
+    fault = one.fault_of(line) or LineFault(0)
+    if fault.number in (WRONG_LENGTH, WRONG_COUNT):
+        return
+    fields = zip(one.kinds, line.split(COMMA))
+    wrong = [wrong_in(kind, field) is not None for kind, field in fields]
+    first = wrong.index(True) + 1 if True in wrong else None
+    if first != fault.field:
+        raise CheckFailed(f"{one.name}: {line} gives {fault}, and words for {first}")
 
 
 def number_places(one):
     return [place for place, kind in enumerate(one.kinds) if kind.digits > 0]
-
-
-def takes_minus(kind):
-    return kind.pattern.fullmatch(b"-1") is not None
 
 
 def field_cases(one, line):
@@ -254,23 +320,23 @@ def field_cases(one, line):
     for kind, damage in FIELD_DAMAGES.items():
         for place in range(len(one.kinds)):
             fields = line().split(COMMA)
-            yield kind, with_field(fields, place, damage(fields[place]))
+            yield broken(kind, with_field(fields, place, damage(fields[place])), place)
     for kind, damage in NUMBER_DAMAGES.items():
         for place in number_places(one):
             fields = line().split(COMMA)
             digits = fields[place].lstrip(b"-")
             sign = fields[place][: -len(digits)]
             value = damage(sign, digits, one.kinds[place].digits)
-            yield kind, with_field(fields, place, value)
+            yield broken(kind, with_field(fields, place, value), place)
     for place in number_places(one):
-        if not takes_minus(one.kinds[place]):
+        if not one.kinds[place].minus:
             for number in (b"-1", b"-100000000000", b"-3376008600"):
                 damaged = with_field(line().split(COMMA), place, number)
-                yield "minus where there is none", damaged
+                yield broken("minus where there is none", damaged, place)
     for name in BAD_NAMES:
-        yield "bad id", with_field(line().split(COMMA), 0, name)
+        yield broken("bad id", with_field(line().split(COMMA), 0, name), 0)
     for label in BAD_LETTERS if one.kinds[1] is LETTER else BAD_WORDS:
-        yield "bad law", with_field(line().split(COMMA), 1, label)
+        yield broken("bad law", with_field(line().split(COMMA), 1, label), 1)
 
 
 # Bytes at the edges of the classes allowed.
@@ -289,7 +355,11 @@ def byte_cases(one, line):
             fields = line().split(COMMA)
             start = b"" if place == 1 and is_letter else fields[place][:1]
             value = start + bytes([byte]) + fields[place][2:]
-            yield "byte not taken", with_field(fields, place, value)
+            damaged = with_field(fields, place, value)
+            if bytes([byte]) == COMMA:
+                yield miscounted("byte not taken", damaged)
+            else:
+                yield broken("byte not taken", damaged, place)
 
 
 def count_cases(one, line):
@@ -297,64 +367,180 @@ def count_cases(one, line):
     size = len(one.kinds)
     for count in range(1, size):
         fields = line().split(COMMA)
-        yield "too few fields", COMMA.join(fields[:count])
-        yield "semicolon for a comma", joined_by(b";", fields, count)
-        yield "comma left out", joined_by(b"", fields, count)
+        yield miscounted("too few fields", COMMA.join(fields[:count]))
+        yield miscounted("semicolon for a comma", joined_by(b";", fields, count))
+        yield miscounted("comma left out", joined_by(b"", fields, count))
     for place in range(size):
         fields = line().split(COMMA)
-        yield "field left out", without(fields, place)
-        yield "field more", with_more(fields, place, b"0")
-        yield "two commas", with_more(fields, place, b"")
+        yield miscounted("field left out", without(fields, place))
+        yield miscounted("field more", with_more(fields, place, b"0"))
+        yield miscounted("two commas", with_more(fields, place, b""))
     for _ in range(3):
         fields = line().split(COMMA)
-        yield "trailing comma", COMMA.join((*fields, b""))
-        yield "leading comma", COMMA.join((b"", *fields))
+        yield miscounted("trailing comma", COMMA.join((*fields, b"")))
+        yield miscounted("leading comma", COMMA.join((b"", *fields)))
 
 
 def shape_cases(one, line):
     """Damages to the line as a whole."""
+    # A title may stand for a word, and is no letter.
+    in_header = 1 if one.kinds[1] is LETTER else 2
+    last = len(one.kinds) - 1
     for _ in range(3):
-        yield "empty line", b""
-        yield "header again", one.header
-        yield "line in quotes", b'"' + line() + b'"'
+        yield miscounted("empty line", b"")
+        yield broken("header again", one.header, in_header)
+        yield broken("line in quotes", b'"' + line() + b'"', 0)
         for mark in SEPARATORS:
-            yield "other separators", line().replace(COMMA, mark)
+            yield miscounted("other separators", line().replace(COMMA, mark))
+        yield broken("blank after each comma", line().replace(COMMA, b", "), 1)
         for mark in JOINS:
-            yield "two lines in one", line() + mark + line()
+            yield miscounted("two lines in one", line() + mark + line())
         for mark in BEFORE_END:
-            yield "more before CRLF", line() + mark
+            yield broken("more before CRLF", line() + mark, last)
         for mark in AFTER_END:
-            yield "more after CRLF", mark + line()
-    own = (one.ill_formed, one.answer_header, one.header.upper(), one.header + COMMA)
-    for whole in (*NO_LINES, *own, *MORE_NO_LINES):
-        yield "no line of a list", whole
+            yield broken("more after CRLF", mark + line(), 0)
+
+
+def no_line_cases(one, line):
+    """Lines that no list has, and such as are no lines of this one."""
+    kind = "no line of a list"
+    size = len(one.kinds)
+    for whole in FEW_FIELDS:
+        yield miscounted(kind, whole)
+    for whole in NINE_FIELDS:
+        yield broken(kind, whole, 1) if size == 9 else miscounted(kind, whole)
+    yield broken(kind, one.header.upper(), 1)
+    yield miscounted(kind, one.header + COMMA)
+    # Its answers, which may have as many fields as its lines.
+    alike = one.answer_header.count(COMMA) == one.header.count(COMMA)
+    answers = [one.refusal("?", "?", number) for number in (WRONG_HEADER, *WRONG_LINE)]
+    for whole in (*answers, one.ill_formed(LineFault(WRONG_FIELD, size))):
+        yield broken(kind, whole, 0) if alike else miscounted(kind, whole)
+    whole = one.answer_header
+    yield broken(kind, whole, 1) if alike else miscounted(kind, whole)
+    # Commas alone: one, one too few and one too many, up to the limit of a line and
+    # past it; and as many as there are.
+    for count in (1, size - 2, size, 20, 199, 200, 201, 202, 203):
+        yield miscounted("only commas", COMMA * count)
+    yield broken("only commas", COMMA * (size - 1), 0)
+
+
+def filled(one, name, line, size, kind):
+    """A line of so many bytes, made of a good one by this filling."""
+    filling, place = FILLINGS[name]
+    damaged = filling(line, size)
+    if place is None:
+        return miscounted(kind, damaged)
+    return broken(kind, damaged, place % len(one.kinds))
 
 
 def length_cases(one, line):
     """Lines of about 200 bytes and more, of good ones that have less than 180."""
     for size in LENGTHS:
-        for filling in FILLINGS.values():
-            yield f"{size} bytes", filling(line(), size)
-    for kind in LONG_FILLINGS:
-        yield f"{LONG} bytes", FILLINGS[kind](line(), LONG)
+        for name in FILLINGS:
+            yield filled(one, name, line(), size, f"{size} bytes")
+    for name in LONG_FILLINGS:
+        yield filled(one, name, line(), LONG, f"{LONG} bytes")
     # About the limit, a mark that ends no line and then what would be answered
     # if it did, or if the rest of a long line were a line.
+    last = len(one.kinds) - 1
     for size in range(198, 204):
         for mark in (b"", CR, LF, LF + CR, NUL):
             start = line().ljust(size)
-            yield "good line past the limit", start + mark + line()
+            yield miscounted("good line past the limit", start + mark + line())
         for mark in (CR, LF):
             start = line().ljust(size)
-            yield "CR or LF at the limit", start + mark + b"x"
+            yield broken("CR or LF at the limit", start + mark + b"x", last)
+
+
+# Fields broken by hand.
+
+
+def broken_cases(one, line):
+    """Each field broken in every way that there are words for."""
+    for place, kind in enumerate(one.kinds):
+        for field, wrong in broken_fields(kind):
+            damaged = with_field(line().split(COMMA), place, field)
+            words = due_words(one, place, wrong)
+            yield broken(f"field: {wrong or 'a LF'}", damaged, place, words)
+
+
+def some_broken(kind, turn):
+    """One of the broken fields of such a column, by turns."""
+    fields = list(broken_fields(kind))
+    return fields[7 * turn % len(fields)]
+
+
+PAIR_TURNS = 3
+
+
+def pair_cases(one, line):
+    """Every two fields broken at once: the first of them is named."""
+    pairs = list(combinations(range(len(one.kinds)), 2))
+    for turn in range(PAIR_TURNS * len(pairs)):
+        first, second = pairs[turn % len(pairs)]
+        field, wrong = some_broken(one.kinds[first], turn)
+        other, also = some_broken(one.kinds[second], turn + 1)
+        fields = with_field(line().split(COMMA), first, field).split(COMMA)
+        if also is WITH_FEED:
+            wrong = WITH_FEED
+        damaged = with_field(fields, second, other)
+        words = due_words(one, first, wrong)
+        yield broken("two fields broken", damaged, first, words)
+
+
+def with_length(fields, place, size):
+    """The line with letters in a field that bring it to so many bytes."""
+    rest = with_field(fields, place, b"")
+    return with_field(fields, place, b"x" * (size - len(rest)))
+
+
+def both_cases(one, line):
+    """Lines with several faults: the length goes before the count, and the count
+    before a field."""
+    size = len(one.kinds)
+    for place, kind in enumerate(one.kinds):
+        for length in range(199, 204):
+            damaged = with_length(line().split(COMMA), place, length)
+            yield broken("broken field, about 200 bytes", damaged, place)
+        field, _ = some_broken(kind, place)
+        fields = with_field(line().split(COMMA), place, field).split(COMMA)
+        few = without(fields, (place + 1) % size)
+        yield miscounted("broken field, too few fields", few)
+        for at in (0, size):
+            more = with_more(fields, at, b"0")
+            yield miscounted("broken field, too many fields", more)
+        for length in (200, 201):
+            commas = COMMA.join(fields).ljust(length, COMMA)
+            yield miscounted("broken field, commas to 200 bytes and more", commas)
+            letters = few.ljust(length, b"x")
+            yield miscounted("broken field, too few, to 200 bytes and more", letters)
+
+
+ILL_FORMED = (
+    field_cases,
+    byte_cases,
+    count_cases,
+    shape_cases,
+    no_line_cases,
+    length_cases,
+    broken_cases,
+    pair_cases,
+    both_cases,
+)
 
 
 def ill_formed_cases(one, line):
     """Every line above."""
-    yield from field_cases(one, line)
-    yield from byte_cases(one, line)
-    yield from count_cases(one, line)
-    yield from shape_cases(one, line)
-    yield from length_cases(one, line)
+    for cases in ILL_FORMED:
+        yield from cases(one, line)
+
+
+def kept_cases(one, line):
+    """Lines in which a field just keeps its rule."""
+    for place, kind in enumerate(one.kinds):
+        for field in KEPT[kind]:
+            yield with_field(line().split(COMMA), place, field)
 
 
 # Damages after which a line may be as good as before.

@@ -1,5 +1,5 @@
 """Makes the expected outputs crates/NAME/stdout, the input of `launchlist` and the
-answer to the example list, and compares the files with them."""
+answers to the example lists, and compares the files with them."""
 
 import sys
 
@@ -13,7 +13,9 @@ from pathlib import Path
 from tempfile import TemporaryDirectory
 
 import cards
+import damage
 import launchlist_cases
+import long_round
 import reading
 import register
 import register_cases
@@ -29,12 +31,15 @@ from quantity import Refused, kelvin, quotient_down, ratio
 from reading import deviation_at
 from reference import BELOW, PAST, PAST_TOP, TOP, inverse, working
 from register import Entry
+from samples import GOOD
 
 ROOT = Path(__file__).resolve().parent.parent
 
-# The example lists, which are written by hand, and the program that answers each.
+# The example lists and the program that answers each. They are written by hand, but
+# for the long one.
 EXAMPLES = {
     "round": "launchlist",
+    "long-round": "launchlist",
     "records": "benchlist",
     "resistances": "benchlist",
     "steps": "benchlist",
@@ -63,6 +68,7 @@ MAKERS = {
     "crates/launchlist/stdout": launchlist_cases.stdout,
     "crates/benchlist/stdin": partial(example_list, "records"),
     "crates/benchlist/stdout": partial(example_answer, "records"),
+    "examples/long-round.csv": long_round.make,
     **{
         f"examples/{name}.answer.csv": partial(example_answer, name)
         for name in EXAMPLES
@@ -215,7 +221,8 @@ def answers(*lines):
 
 
 IS_100 = "F1,curve,1000000,0"
-ILL = "?,?,,10"
+TOO_LONG = "?,?,,12"
+MISCOUNTED = "?,?,,13"
 
 
 # The first lines of the lists of `benchlist`, and of their answers.
@@ -248,6 +255,27 @@ def said_of(header, line):
     """What is said of the first line of a list of `benchlist`."""
     made = said("benchlist", crlf(f"{header}\n{line}\n")).decode("ascii")
     return made.removeprefix("benchlist: line 2: ")
+
+
+def said_of_row(line):
+    """What is said of the first line of a list of `launchlist`."""
+    made = said("launchlist", LIST_HEAD + line + b"\r\n").decode("ascii")
+    return made.removeprefix("launchlist: line 2: ")
+
+
+def refused_in_long_round():
+    """The refused lines of the long example with their answers, by number."""
+    lines = launchlist(long_round.make()).decode("ascii").split("\r\n")
+    numbered = enumerate(lines[1:-1], 2)
+    return {number: line for number, line in numbered if not line.endswith(",0")}
+
+
+SAID_OF_LONG_ROUND = b"""\
+launchlist: line 58: it has more than 200 bytes
+launchlist: line 131: it has 8 fields, and the header has 9
+launchlist: line 212: field 5, a: a leading zero
+launchlist: line 268: field 3, r: a point
+"""
 
 
 JOINED = (
@@ -649,41 +677,60 @@ SELF_CHECKS = (
     ("list, byte order mark", WRONG_HEADER, launchlist, b"\xef\xbb\xbf" + LIST),
     ("list, header in upper case", WRONG_HEADER, launchlist, LIST.upper()),
     ("list, lines ended by LF", WRONG_HEADER, launchlist, LIST.replace(b"\r", b"")),
-    ("list, empty line last", ANSWERS + crlf("?,?,,10\n"), launchlist, LIST + b"\r\n"),
-    ("list, CR last", ANSWERS + crlf("?,?,,10\n"), launchlist, LIST + b"\r"),
-    ("empty line between", f"{IS_100} {ILL} {IS_100}", answers, row(), b"", row()),
-    ("200 bytes, 201 bytes", f"{ILL} {ILL}", answers, b"x" * 200, b"x" * 201),
-    ("line after a long one", f"{ILL} {IS_100}", answers, b"x" * 201, row()),
-    ("good line past 200 bytes", ILL, answers, b"x" * 200 + row()),
-    ("two lines joined by LF", ILL, answers, row() + b"\n" + row()),
-    ("CR before CRLF", ILL, answers, row() + b"\r"),
-    ("LF after CRLF", ILL, answers, b"\n" + row()),
-    ("trailing comma", ILL, answers, row() + b","),
-    ("too few fields", ILL, answers, row()[:-2]),
+    ("list, empty line last", ANSWERS + crlf("?,?,,13\n"), launchlist, LIST + b"\r\n"),
+    ("list, CR last", ANSWERS + crlf("?,?,,13\n"), launchlist, LIST + b"\r"),
+    (
+        "empty line between",
+        f"{IS_100} {MISCOUNTED} {IS_100}",
+        *(answers, row(), b"", row()),
+    ),
+    (
+        "200 bytes, 201 bytes",
+        f"{MISCOUNTED} {TOO_LONG}",
+        *(answers, b"x" * 200, b"x" * 201),
+    ),
+    (
+        "200 commas, 201 commas",
+        f"{MISCOUNTED} {TOO_LONG}",
+        *(answers, b"," * 200, b"," * 201),
+    ),
+    ("line after a long one", f"{TOO_LONG} {IS_100}", answers, b"x" * 201, row()),
+    ("good line past 200 bytes", TOO_LONG, answers, b"x" * 200 + row()),
+    ("good line, blanks to 200 bytes", "?,?,9,14", answers, row().ljust(200)),
+    ("good line, blanks to 201 bytes", TOO_LONG, answers, row().ljust(201)),
+    ("two lines joined by LF", MISCOUNTED, answers, row() + b"\n" + row()),
+    ("CR before CRLF", "?,?,9,14", answers, row() + b"\r"),
+    ("LF after CRLF", "?,?,1,14", answers, b"\n" + row()),
+    ("trailing comma", MISCOUNTED, answers, row() + b","),
+    ("too few fields", MISCOUNTED, answers, row()[:-2]),
+    ("seven commas, eight", f"{MISCOUNTED} ?,?,1,14", answers, b"," * 7, b"," * 8),
+    ("too few fields, one broken", MISCOUNTED, answers, row("F_1")[:-2]),
+    ("two broken fields", "?,?,3,14", answers, row(r="", wal="00")),
+    ("two others", "?,?,1,14", answers, row("F_1", "AG")),
     ("id of 16 bytes", "-" * 16 + ",curve,1000000,0", answers, row("-" * 16)),
-    ("id of 17 bytes", ILL, answers, row("A" * 17)),
-    ("no id", ILL, answers, row("")),
-    ("id with an underscore", ILL, answers, row("F_1")),
-    ("id past ASCII", ILL, answers, row("\xe9")),
+    ("id of 17 bytes", "?,?,1,14", answers, row("A" * 17)),
+    ("no id", "?,?,1,14", answers, row("")),
+    ("id with an underscore", "?,?,1,14", answers, row("F_1")),
+    ("id past ASCII", "?,?,1,14", answers, row("\xe9")),
     ("law of 8 letters", "F1,abcdefgh,,3", answers, row(law="abcdefgh")),
-    ("law of 9 letters", ILL, answers, row(law="abcdefghi")),
-    ("law in upper case", ILL, answers, row(law="CURVE")),
-    ("law with a digit", ILL, answers, row(law="ag1")),
-    ("leading zero", ILL, answers, row(r="0138505500000")),
-    ("two zeros", ILL, answers, row(a="00")),
-    ("minus before 0", ILL, answers, row(a="-0")),
-    ("minus before R", ILL, answers, row(r="-138505500000")),
-    ("minus before W(Al)", ILL, answers, row(wal="-1")),
+    ("law of 9 letters", "?,?,2,14", answers, row(law="abcdefghi")),
+    ("law in upper case", "?,?,2,14", answers, row(law="CURVE")),
+    ("law with a digit", "?,?,2,14", answers, row(law="ag1")),
+    ("leading zero", "?,?,3,14", answers, row(r="0138505500000")),
+    ("two zeros", "?,?,5,14", answers, row(a="00")),
+    ("minus before 0", "?,?,5,14", answers, row(a="-0")),
+    ("minus before R", "?,?,3,14", answers, row(r="-138505500000")),
+    ("minus before W(Al)", "?,?,9,14", answers, row(wal="-1")),
     ("minus before d", "F1,curve,,7", answers, row(d="-1")),
-    ("plus", ILL, answers, row(a="+1")),
-    ("no number", ILL, answers, row(wal="")),
-    ("space", ILL, answers, row(r="138505500000 ")),
-    ("LF at the end of a number", ILL, answers, row(wal="0\n")),
-    ("digit past ASCII", ILL, answers, row(a="1\xb2")),
+    ("plus", "?,?,5,14", answers, row(a="+1")),
+    ("no number", "?,?,9,14", answers, row(wal="")),
+    ("space", "?,?,3,14", answers, row(r="138505500000 ")),
+    ("LF at the end of a number", "?,?,9,14", answers, row(wal="0\n")),
+    ("digit past ASCII", "?,?,5,14", answers, row(a="1\xb2")),
     ("R of 13 digits", "F1,curve,,1", answers, row(r="9999999999999")),
-    ("R of 14 digits", ILL, answers, row(r="10000000000000")),
+    ("R of 14 digits", "?,?,3,14", answers, row(r="10000000000000")),
     ("a of 13 digits", "F1,curve,,7", answers, row(a="-9999999999999")),
-    ("a of 14 digits", ILL, answers, row(a="-10000000000000")),
+    ("a of 14 digits", "?,?,5,14", answers, row(a="-10000000000000")),
     # W = 1, then card 7; card 9 with R0 100 ohm.
     ("0 °C", "F1,curve,0,0", answers, row(r="100000000000")),
     ("-200 °C", "F1,curve,-2000000,0", answers, row(r="18520080000")),
@@ -691,7 +738,7 @@ SELF_CHECKS = (
     ("W = 4.4", "F1,curve,,9", answers, row(r="440000000000")),
     ("one unit more", "F1,curve,,2", answers, row(r="440000000100")),
     ("R = 0", "F1,curve,,1", answers, row(r="0")),
-    ("line, 10 before 3", ILL, answers, row(law="pt", a="-0")),
+    ("line, 14 before 3", "?,?,5,14", answers, row(law="pt", a="-0")),
     ("line, 3 before 7", "F1,pt,,3", answers, row(law="pt", a="1")),
     ("line, 7 before 1", "F1,curve,,7", answers, row(a="1", r="0")),
     ("nothing said", b"", said, "launchlist", LIST),
@@ -701,10 +748,43 @@ SELF_CHECKS = (
         *(said, "launchlist", LIST, True),
     ),
     ("LF as byte 201", JOINED, said, "launchlist", LIST_HEAD + b"x" * 200 + b"\n"),
-    ("LF as byte 202", b"", said, "launchlist", LIST_HEAD + b"x" * 201 + b"\n"),
+    (
+        "LF as byte 202",
+        b"launchlist: line 2: it has more than 200 bytes\n",
+        *(said, "launchlist", LIST_HEAD + b"x" * 201 + b"\n"),
+    ),
     ("line 101", b"launchlist: line 101: it holds a LF with", said_last, 100),
     ("line 102", b"launchlist: more lines have a fault; onl", said_last, 101),
     ("line 103", b"launchlist: more lines have a fault; onl", said_last, 102),
+    ("said of 12", "it has more than 200 bytes\n", said_of_row, b"," * 201),
+    (
+        "said of 200 commas",
+        "it has 201 fields, and the header has 9\n",
+        *(said_of_row, b"," * 200),
+    ),
+    (
+        "said of an empty line",
+        "it has 1 field, and the header has 9\n",
+        *(said_of_row, b""),
+    ),
+    ("said of a comma", "it has 2 fields, and the header has 9\n", said_of_row, b","),
+    ("said of an id", "field 1, id: an underscore\n", said_of_row, row("F_1")),
+    ("said of a law", "field 2, law: a capital letter\n", said_of_row, row(law="AG")),
+    ("said of r", "field 3, r: a point\n", said_of_row, row(r="138.5")),
+    ("said of a", "field 5, a: a minus before 0\n", said_of_row, row(a="-0")),
+    ("said of wal", "field 9, wal: a CR\n", said_of_row, row() + b"\r"),
+    ("said of two fields", "field 3, r: it is empty\n", said_of_row, row(r="", wal="")),
+    ("said of a reading", "", said_of_row, row(law="pt")),
+    (
+        "the long example",
+        {58: TOO_LONG, 131: MISCOUNTED, 212: "?,?,5,14", 268: "?,?,3,14"},
+        refused_in_long_round,
+    ),
+    (
+        "said of the long example",
+        SAID_OF_LONG_ROUND,
+        *(said, "launchlist", long_round.make()),
+    ),
     ("LF alone", FEEDS, reason_of, LIST.replace(b"\r\n", b"\n")),
     *mending_checks(),
     ("an empty list mended", b"", mended, b""),
@@ -740,6 +820,32 @@ SELF_CHECKS = (
         "7: a coefficient is beyond its limit\n",
         *(said_of, RATIOS, f"R1,ag,{FIVE_CELLS},3376008600,4284400000"),
     ),
+    (
+        "said of 12 in a record",
+        "it has more than 200 bytes\n",
+        *(said_of, RESISTANCES, f"SIXTEEN--LETTERS,ag,{SEVEN_CELLS}"),
+    ),
+    (
+        "said of 13 in a record",
+        "it has 3 fields, and the header has 9\n",
+        *(said_of, RATIOS, "R1,ga,0"),
+    ),
+    (
+        "said of hg0",
+        "field 4, hg0: more than 13 digits\n",
+        *(said_of, RESISTANCES, "R1,ga,0,10000000000000,0,0" + FIVE_NOT_MEASURED),
+    ),
+    ("said of t", "field 3, t: a minus alone\n", said_of, TOLERANCE, "S1,A,-,1,1"),
+    (
+        "said of a step",
+        "field 3, t: a minus\n",
+        *(said_of, FORWARD, "X1,ga,--1,0,0,0,0,0"),
+    ),
+    (
+        "said of a class",
+        "field 2, class: more than one letter\n",
+        *(said_of, TOLERANCE, "S1,AB,0,1,1"),
+    ),
     ("bench, empty input", NO_RECORD, benchlist, b""),
     ("bench, header of launchlist", NO_RECORD, benchlist, LIST),
     ("launchlist, header of bench", WRONG_HEADER, launchlist, crlf(FORWARD + "\n")),
@@ -768,8 +874,9 @@ SELF_CHECKS = (
     ("record, no cell", "R1,ag,,,,,,4", bench, RATIOS, "R1,ag,0,0,0,0,0,0,0"),
     ("record, 5", "R1,in,,,,,,5", bench, RATIOS, "R1,in,0,0,1609801850,0,0,0,0"),
     ("record, 7", "R1,ga,,,,,,7", bench, RATIOS, "R1,ga,0,1200000000,0,0,0,0,0"),
-    ("record, minus", "?,?,,,,,,10", bench, RATIOS, "R1,ga,0,-1118070000,0,0,0,0,0"),
-    ("record, empty line", "?,?,,,,,,10", bench, RATIOS, ""),
+    ("record, minus", "?,?,4,,,,,14", bench, RATIOS, "R1,ga,0,-1118070000,0,0,0,0,0"),
+    ("record, empty line", "?,?,,,,,,13", bench, RATIOS, ""),
+    ("record, 201 bytes", "?,?,,,,,,12", bench, RATIOS, "x" * 201),
     (
         "card 5 by resistances",
         "R1,ga,-58346744,0,0,0,0,0",
@@ -823,8 +930,13 @@ SELF_CHECKS = (
     ),
     (
         "201 bytes",
-        "?,?,,,,,,10",
+        "?,?,,,,,,12",
         *(bench, RESISTANCES, f"SIXTEEN--LETTERS,ag,{SEVEN_CELLS}"),
+    ),
+    (
+        "200 bytes, a blank",
+        "?,?,16,,,,,14",
+        *(bench, RESISTANCES, f"FOURTEENLETTER,ag,{SEVEN_CELLS} "),
     ),
     (
         "forward, 0 °C as a line",
@@ -845,8 +957,10 @@ SELF_CHECKS = (
     ("forward, 7", "X1,ga,,7", bench, FORWARD, "X1,ga,-1,100000001,0,0,0,0"),
     ("forward, 8", "X1,ga,,8", bench, FORWARD, "X1,ga,-1,100000000,0,0,0,0"),
     ("forward, 9", "X1,ga,,9", bench, FORWARD, "X1,ga,297647,0,0,0,0,0"),
-    ("forward, -0", "?,?,,10", bench, FORWARD, "X1,ga,-0,0,0,0,0,0"),
-    ("forward, minus before W(Al)", "?,?,,10", bench, FORWARD, "X1,ga,0,0,0,0,0,-1"),
+    ("forward, 12", "?,?,,12", bench, FORWARD, "," * 201),
+    ("forward, 13", "?,?,,13", bench, FORWARD, "X1,ga,-0,0,0,0,0"),
+    ("forward, -0", "?,?,3,14", bench, FORWARD, "X1,ga,-0,0,0,0,0,0"),
+    ("forward, minus before W(Al)", "?,?,8,14", bench, FORWARD, "X1,ga,0,0,0,0,0,-1"),
     (
         "A passes",
         "S1,A,pass,1500,0",
@@ -861,9 +975,11 @@ SELF_CHECKS = (
     ("bath of A", "S1,A,,,9", bench, TOLERANCE, "S1,A,6500001,0,0"),
     ("bath of B", "S1,B,,,8", bench, TOLERANCE, "S1,B,-2000001,0,0"),
     ("R0 outside its limits", "S1,B,,,1", bench, TOLERANCE, "S1,B,0,1,1"),
-    ("class, two letters", "?,?,,,10", bench, TOLERANCE, "S1,AB,0,1,1"),
-    ("class, a digit", "?,?,,,10", bench, TOLERANCE, "S1,1,0,1,1"),
-    ("class, none", "?,?,,,10", bench, TOLERANCE, "S1,,0,1,1"),
+    ("class, two letters", "?,?,2,,14", bench, TOLERANCE, "S1,AB,0,1,1"),
+    ("class, a digit", "?,?,2,,14", bench, TOLERANCE, "S1,1,0,1,1"),
+    ("class, none", "?,?,2,,14", bench, TOLERANCE, "S1,,0,1,1"),
+    ("tolerance, 12", "?,?,,,12", bench, TOLERANCE, "S1,AB,0,1," + "1" * 200),
+    ("tolerance, 13", "?,?,,,13", bench, TOLERANCE, "S1,AB,0,1"),
     ("serial at the mark", "refused 20", read_water, [entry(7, 2, 2)], 7),
     ("serial above it", IS_WATER, read_water, [entry(7, 3, 2)], 7),
     ("serial under it", "refused 20", read_water, [entry(7, 1, 2)], 7),
@@ -1019,6 +1135,8 @@ def self_check():
     # Each of these lines is tested where it is given.
     for one in LISTS.values():
         list(refused_lines(one))
+        for damaged in damage.broken_cases(one, lambda: GOOD[one]):
+            damage.check_damaged(one, damaged)
 
 
 def compare(file, made):

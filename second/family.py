@@ -7,7 +7,7 @@ from collections.abc import Callable
 from typing import NamedTuple
 
 from cases import CheckFailed, Generator
-from lists import COMMA, LINE_MOST, WRONG_LENGTH, List, line_of
+from lists import COMMA, LINE_MOST, WRONG_LENGTH, LineFault, List, line_of
 from promises import check_seen
 
 
@@ -78,7 +78,7 @@ def named_line(family, i, place, line):
 def due_line(line, made, name):
     """The answer that is due. A line too long is ill-formed, whatever it asks."""
     if len(made) > LINE_MOST:
-        return line.one.refusal("?", "?", WRONG_LENGTH)
+        return line.one.ill_formed(LineFault(WRONG_LENGTH))
     return line.one.written(name, line.values[0], line.result)
 
 

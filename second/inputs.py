@@ -8,10 +8,12 @@ block, lists with lines of which something is said, and short ones with long ans
 from functools import lru_cache
 from itertools import chain, cycle, islice
 
+from broken_fields import broken_fields
 from cases import CheckFailed, Generator
-from damage import BYTE_ORDER_MARK, CR, LF, LONG, NUL
+from damage import BYTE_ORDER_MARK, CR, LF, LONG, NUL, with_field, with_more
 from faults import REFUSED, refused_lines
-from lists import COMMA, LINE_END
+from lists import COMMA, FORWARD, LINE_END
+from messages import SAID_MOST
 from samples import GOOD, NEXT, drawn_line
 
 SEED = 602
@@ -194,6 +196,24 @@ def with_joined(lines):
     return chain.from_iterable((line, TWO) for line in lines)
 
 
+def ill_formed_lines(one):
+    """A line too long, one with a field too few and one with a field too many; and
+    for each field one in which it is empty."""
+    fields = GOOD[one].split(COMMA)
+    yield GOOD[one].ljust(201)
+    yield COMMA.join(fields[:-1])
+    yield with_more(fields, 1, b"0")
+    for place in range(len(fields)):
+        yield with_field(fields, place, b"")
+
+
+def faulty_lines(one):
+    """Lines of every sort that something may be said of, round and round: refused
+    ones, such that a LF joins, and ill-formed ones."""
+    sorts = (refused_lines(one), (TWO,), ill_formed_lines(one))
+    return chain.from_iterable(zip(*(cycle(list(lines)) for lines in sorts)))
+
+
 def refused_inputs(one):
     """Lists with refused lines; where these are records, something is said."""
     good = GOOD[one]
@@ -208,6 +228,44 @@ def refused_inputs(one):
     both = list(islice(cycle(with_joined(lines)), 100))
     yield "50 refused lines, 50 joined by LF", listed(one, *both, good)
     yield "51 refused lines, 50 joined by LF", listed(one, *both, lines[0], good)
+
+
+def broken_lines(one):
+    """Each way to break a field of each kind that the list has, by turns in the
+    fields of that kind."""
+    for kind in dict.fromkeys(one.kinds):
+        places = [place for place, like in enumerate(one.kinds) if like == kind]
+        for (field, _), place in zip(broken_fields(kind), cycle(places)):
+            yield with_field(GOOD[one].split(COMMA), place, field)
+
+
+# Lines of one field and of two, of as many bytes as a line may have and of more.
+ODD_LINES = (
+    *(b"", COMMA, b"x", b"x,", b",x", b"x" * 200, b"x" * 201, b"," * 200, b"," * 201),
+    *(COMMA + b"x" * 199, COMMA + b"x" * 200, b"x" * 200 + COMMA, b"x" * 200 + CR),
+)
+
+
+def ill_formed_inputs(one):
+    """Lists with ill-formed lines, of each of which something is said."""
+    good = GOOD[one]
+    lines = list(broken_lines(one))
+    for first in range(0, len(lines), SAID_MOST):
+        data = listed(one, *lines[first:][:SAID_MOST])
+        yield f"broken fields from {first} on", data
+    odd = chain.from_iterable((line, good) for line in ODD_LINES)
+    yield "odd lines, good ones between", listed(one, *odd)
+    lines = list(ill_formed_lines(one))
+    between = chain.from_iterable((line, good) for line in lines)
+    yield "ill-formed lines, good ones between", listed(one, *between)
+    for count in (100, 101):
+        some = islice(cycle(lines), count)
+        yield f"{count} ill-formed lines", listed(one, *some, good)
+    mixed = islice(faulty_lines(one), 300)
+    yield "300 lines, each with a fault or refused", listed(one, *mixed, good)
+    for line, name in zip(lines, ("long", "short of a field", "of a field more")):
+        yield f"line {name}, without CRLF", listed(one, good) + line
+    yield "line with an empty field, without CRLF", listed(one, good) + lines[-1]
 
 
 def first_refused(one):
@@ -228,6 +286,7 @@ def open_inputs(one):
         start = listed(one, *[TWO] * count)
         yield f"{count} lines joined by LF, one without CRLF", start + TWO
         yield f"{count} lines joined by LF, refused without CRLF", start + refused
+        yield f"{count} lines joined by LF, a short one without CRLF", start + b"x"
 
 
 def said_inputs(one):
@@ -237,41 +296,57 @@ def said_inputs(one):
     yield from open_inputs(one)
 
 
-# Empty lines have answers longer than they are: those to one read are more than the
-# program writes at once, and it feeds the rest again.
+# Lines that are shorter than their answers: those to one read are more than the
+# program writes at once, and it feeds the rest again. Of empty lines something is
+# said, but only of the first hundred. Of answered ones nothing is; of all lists only
+# the one of steps has such.
 
-SHORT = 20000  # lines
+EMPTY = b""
+ZERO_STEP = b"X,curve,0,0,0,0,0,0"
+
+SHORT = 20000  # empty lines
+ZERO_STEPS = 10000
 AT_ONCE = 65536  # bytes
 NEAR = 200  # bytes
 
 
-def faulty_at(one, places):
-    """Empty lines, and faulty ones in these places."""
-    lines = [b""] * SHORT
-    for place, line in zip(places, cycle(with_joined(refused_lines(one)))):
-        lines[place] = line
+def faulty_at(one, line, count, step):
+    """So many lines like this one, and each so many lines a faulty one."""
+    lines = [line] * count
+    for place, faulty in zip(range(step, count, step), faulty_lines(one)):
+        lines[place] = faulty
     return lines
 
 
-def faulty_about_edges(one):
-    """Empty lines, and faulty ones where the answers come to the end of a block."""
-    faults = cycle(with_joined(refused_lines(one)))
+def faulty_about_edges(one, like, most):
+    """Lines like this one, and faulty ones where the answers come to the end of a
+    block: so many bytes in all at most."""
+    faults = faulty_lines(one)
+    read = len(listed(one))
     size = len(one.answer_header + LINE_END)
-    for _ in range(SHORT):
+    while True:
         near = size > NEAR and (size + NEAR) % AT_ONCE < 2 * NEAR
-        line = next(faults) if near else b""
+        line = next(faults) if near else like
+        read += len(line + LINE_END)
+        if read > most:
+            return
         yield line
         size += len(one.answer_line(line) + LINE_END)
 
 
 def long_answers(one):
-    """Lists whose answers to one read are long. Of the second more than a hundred
-    lines have a fault."""
-    for step in (400, 75):
-        lines = faulty_at(one, range(step, SHORT, step))
-        yield f"long answers, each {step} lines a fault", listed(one, *lines)
-    lines = faulty_about_edges(one)
-    yield "long answers, faults about the ends of blocks", listed(one, *lines)
+    """Lists whose answers to one read are long. Of the steps answered, less than a
+    hundred have a fault, more than a hundred, and those where a block ends."""
+    lines = faulty_at(one, EMPTY, SHORT, 75)
+    yield "long answers, empty lines", listed(one, *lines)
+    lines = faulty_about_edges(one, EMPTY, 2 * SHORT)
+    yield "long answers, others about the ends of blocks", listed(one, *lines)
+    if one is FORWARD:
+        for step in (150, 50):
+            lines = faulty_at(one, ZERO_STEP, ZERO_STEPS, step)
+            yield f"long answers, each {step} lines a fault", listed(one, *lines)
+        lines = faulty_about_edges(one, ZERO_STEP, AT_ONCE)
+        yield "long answers, faults about the end of a block", listed(one, *lines)
 
 
 BLOCKS = (4096, 8192, 65536, 131072)
@@ -341,9 +416,9 @@ FAULT_EVERY = 400  # lines, so that less than a hundred are said
 
 
 def big_faulty(one):
-    """The big list with refused lines and such that a LF joins in it."""
+    """The big list with faulty lines of every sort in it."""
     lines = big_lines(one)
-    faults = cycle(with_joined(refused_lines(one)))
+    faults = faulty_lines(one)
     for place in range(FAULT_EVERY, BIG, FAULT_EVERY):
         lines[place] = next(faults)
     return listed(one, *lines)
@@ -355,6 +430,7 @@ def whole_inputs(one):
     yield from row_runs(one)
     yield from block_runs(one)
     yield from said_inputs(one)
+    yield from ill_formed_inputs(one)
     yield from long_answers(one)
     yield "big list", listed(one, *big_lines(one))
     yield "big list with faults", big_faulty(one)

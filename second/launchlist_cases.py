@@ -27,14 +27,13 @@ from draws import (
     places_for,
     resistances,
 )
-from lists import COMMA, LINE_END, READINGS, answer
+from lists import COMMA, LINE_END, READINGS, WRONG_FIELD, WRONG_LINE, answer
 from promises import check_seen
 from quantity import DIVISOR_LEAST, RATIO_MOST, RESISTANCE_MOST
 from reading import CURVE, bounds
 
 HEADER = READINGS.header
 ANSWER_HEADER = READINGS.answer_header
-ILL_FORMED = READINGS.ill_formed
 
 SEED = 601
 
@@ -48,8 +47,12 @@ class Case(NamedTuple):
     asked: tuple = None
 
 
-def damaged(kind, line):
-    return Case(kind, line, ILL_FORMED)
+def ill_formed(damaged):
+    """A damaged line, tested to be refused and spoken of as it is damaged."""
+    damage.check_damaged(READINGS, damaged)
+    number, field = damaged.fault
+    due = b"?,?,%s,%d" % (b"" if field is None else b"%d" % field, number)
+    return Case(damaged.kind, damaged.line, due)
 
 
 def well_formed(kind, name, law, places, r, r0, result):
@@ -274,8 +277,9 @@ def damage_cases(damages):
     """A group of damaged lines, each made of a drawn reading."""
 
     def group(generator):
-        for kind, line in damages(READINGS, lambda: drawn_reading(generator).line):
-            yield damaged(kind, line)
+        yield from map(
+            ill_formed, damages(READINGS, lambda: drawn_reading(generator).line)
+        )
 
     return group
 
@@ -287,8 +291,7 @@ def byte_cases(generator):
         r = 10**11 + generator.under(10**10)
         return b"F1,curve,%d,100000000000,0,0,0,0,0" % r
 
-    for kind, wrong in damage.byte_cases(READINGS, line):
-        yield damaged(kind, wrong)
+    yield from map(ill_formed, damage.byte_cases(READINGS, line))
 
 
 GROUPS = (
@@ -302,7 +305,11 @@ GROUPS = (
     byte_cases,
     damage_cases(damage.count_cases),
     damage_cases(damage.shape_cases),
+    damage_cases(damage.no_line_cases),
     damage_cases(damage.length_cases),
+    damage_cases(damage.broken_cases),
+    damage_cases(damage.pair_cases),
+    damage_cases(damage.both_cases),
 )
 
 
@@ -331,6 +338,11 @@ def code_of(case):
     return int(case.due.rsplit(COMMA, 1)[1])
 
 
+def field_of(case):
+    """The field that a refusal names."""
+    return int(case.due.split(COMMA)[2])
+
+
 def check_reading(case, survey):
     """That the reading asked for keeps its promises and has the result due."""
     law, places, r, r0 = case.asked
@@ -341,7 +353,7 @@ def check_reading(case, survey):
 
 
 # How many kinds of damage there are: one that is no longer done is missed.
-KINDS_OF_DAMAGE = 89
+KINDS_OF_DAMAGE = 119
 
 
 def check_met(cases):
@@ -349,8 +361,11 @@ def check_met(cases):
     done = Counter(case.kind for case in cases if case.asked is None)
     check_seen("damages", done, dict.fromkeys(done, 3))
     check_seen("kinds", {"of damage": len(done)}, {"of damage": KINDS_OF_DAMAGE})
-    least = {0: 300, 1: 50, 2: 20, 3: 40, 7: 50, 8: 20, 9: 40, 10: 500}
+    least = {0: 300, 1: 50, 2: 20, 3: 40, 7: 50, 8: 20, 9: 40}
+    least |= dict.fromkeys(WRONG_LINE, 100)
     check_seen("lines", Counter(map(code_of, cases)), least)
+    named = Counter(field_of(case) for case in cases if code_of(case) == WRONG_FIELD)
+    check_seen("fields", named, dict.fromkeys(range(1, len(READINGS.kinds) + 1), 100))
     laws = Counter(case.asked[0] for case in cases if code_of(case) == 0)
     check_seen("laws", laws, dict.fromkeys(LAWS, 40))
 

@@ -25,21 +25,31 @@ WORD_MOST = 8
 DIGITS_MOST = 13
 RESISTANCE_DIGITS_MOST = 13
 
-# The number of a wrong first line, and of an ill-formed one by what is wrong.
+# The number of a wrong first line, and of an ill-formed one after it by what is
+# wrong, in the order of the tests.
 WRONG_HEADER = 10
-WRONG_LENGTH = 10
-WRONG_COUNT = 10
-WRONG_FIELD = 10
-WRONG_LINE = {WRONG_LENGTH, WRONG_COUNT, WRONG_FIELD}
+WRONG_LENGTH = 12
+WRONG_COUNT = 13
+WRONG_FIELD = 14
+WRONG_LINE = (WRONG_LENGTH, WRONG_COUNT, WRONG_FIELD)
+
+
+class LineFault(NamedTuple):
+    """What is wrong with an ill-formed line: its number, and where a field breaks
+    its rule, which, counted from 1."""
+
+    number: int
+    field: int = None
 
 
 class Kind(NamedTuple):
     """What a column takes: the pattern of the whole field, what a field stands
-    for, and of a number how many digits it may have."""
+    for, and of a number how many digits and whether a minus it may have."""
 
     pattern: re.Pattern
     value: Callable
     digits: int = 0
+    minus: bool = False
 
 
 def text(field):
@@ -53,7 +63,8 @@ def count(digits):
 
 
 def signed(digits):
-    return Kind(re.compile(rb"0|-?[1-9][0-9]{0,%d}" % (digits - 1)), int, digits)
+    pattern = re.compile(rb"0|-?[1-9][0-9]{0,%d}" % (digits - 1))
+    return Kind(pattern, int, digits, minus=True)
 
 
 ID = Kind(re.compile(rb"[A-Za-z0-9-]{1,%d}" % ID_MOST), bytes)
@@ -83,23 +94,23 @@ class List:
 
     def __init__(self, name, columns, answer_header, ask):
         self.name = name
+        self.titles = tuple(columns)
         self.kinds = tuple(columns.values())
         self.header = COMMA.join(column.encode("ascii") for column in columns)
         self.answer_header = answer_header
         self.between = len(answer_header.split(COMMA)) - 3
         self.ask = ask
-        self.ill_formed = self.refusal("?", "?", WRONG_FIELD)
 
     def fault_of(self, line):
-        """The number of what is wrong with a line, or None for a well-formed one."""
+        """What is wrong with a line, or None for a well-formed one."""
         if len(line) > LINE_MOST:
-            return WRONG_LENGTH
+            return LineFault(WRONG_LENGTH)
         fields = line.split(COMMA)
         if len(fields) != len(self.kinds):
-            return WRONG_COUNT
-        for kind, field in zip(self.kinds, fields):
+            return LineFault(WRONG_COUNT)
+        for number, (kind, field) in enumerate(zip(self.kinds, fields), 1):
             if kind.pattern.fullmatch(field) is None:
-                return WRONG_FIELD
+                return LineFault(WRONG_FIELD, number)
         return None
 
     def values_of(self, line):
@@ -109,6 +120,12 @@ class List:
 
     def refusal(self, name, label, number):
         return line_of(name, label, *[""] * self.between, number)
+
+    def ill_formed(self, fault):
+        """The answer to an ill-formed line: the number of a field that breaks its
+        rule stands in the third column."""
+        field = "" if fault.field is None else fault.field
+        return line_of("?", "?", field, *[""] * (self.between - 1), fault.number)
 
     def written(self, name, label, outcome):
         """The line of an answer: of its fields, or of the number of a refusal."""
@@ -130,7 +147,7 @@ class List:
         """The answer to one line after the header, both without CRLF."""
         fault = self.fault_of(line)
         if fault is not None:
-            return self.refusal("?", "?", fault)
+            return self.ill_formed(fault)
         name, label, *numbers = self.values_of(line)
         outcome, _ = self.outcome_of(label, *numbers)
         return self.written(name, label, outcome)

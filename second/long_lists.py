@@ -20,7 +20,7 @@ from samples import drawn_line
 SEED = 901
 
 BLOCK = 4000  # lines
-ROUND = b"ROUND"  # stands in an id for the number of the round
+ROUND = b"ROUND"  # stands in an id for the number of the round, as long as that
 
 # How much more memory a program may have had in the end than after these rounds.
 FIRST_ROUNDS = 5
@@ -41,7 +41,9 @@ def block_for(one):
 
 
 def in_round(block, turn):
-    return block.replace(ROUND, b"%d" % turn)
+    """The block with this number. It makes no line longer, so that each has the
+    fault that it has in the block."""
+    return block.replace(ROUND, b"%05d" % turn)
 
 
 def all_lines(block, rounds):

@@ -2,7 +2,18 @@
 
 from itertools import islice, zip_longest
 
-from lists import LINE_MOST, PROGRAMS, RECORDS, answer, lines_of, list_of
+from field_words import wrong_in
+from lists import (
+    COMMA,
+    LINE_MOST,
+    PROGRAMS,
+    RECORDS,
+    WRONG_COUNT,
+    WRONG_LENGTH,
+    answer,
+    lines_of,
+    list_of,
+)
 
 MOST = 260
 
@@ -26,7 +37,7 @@ SEMICOLONS = "it has semicolons: separate the fields by commas"
 BLANKS = "it has blanks: write the header without them"
 FEEDS = f"its lines end with LF alone, and CRLF is wanted: {MENDING}"
 
-# So many first bytes of a line are looked at for a LF.
+# So many first bytes of a line are looked at.
 LOOKED_AT = LINE_MOST + 1
 
 SAID_MOST = 100  # messages of lines
@@ -35,6 +46,7 @@ JOINED = (
     "it holds a LF without CR, which ends no line, and nothing in it is answered; "
     f"to mend the list: {MENDING}"
 )
+LONG_LINE = f"it has more than {LINE_MOST} bytes"
 # Of a record's refusals, what is said of the first cell at fault.
 OF_CELL = {
     1: "its R or R0 is outside its limits",
@@ -109,6 +121,19 @@ def said_of_header(program, data):
 # Of the lines after a right one.
 
 
+def said_of_fault(one, line, fault):
+    """What is said of an ill-formed line."""
+    if fault.number == WRONG_LENGTH:
+        return LONG_LINE
+    fields = line.split(COMMA)
+    if fault.number == WRONG_COUNT:
+        count = "1 field" if len(fields) == 1 else f"{len(fields)} fields"
+        return f"it has {count}, and the header has {len(one.titles)}"
+    place = fault.field - 1
+    wrong = wrong_in(one.kinds[place], fields[place])
+    return f"field {fault.field}, {one.titles[place]}: {wrong}"
+
+
 def said_of_record(outcome, cell):
     """What is said of a record with this outcome, or None."""
     if cell is not None:
@@ -121,7 +146,10 @@ def said_of_line(one, line):
     # No field takes a LF, so that the line is ill-formed.
     if LF in line[:LOOKED_AT]:
         return JOINED
-    if one not in RECORDS or one.fault_of(line) is not None:
+    fault = one.fault_of(line)
+    if fault is not None:
+        return said_of_fault(one, line, fault)
+    if one not in RECORDS:
         return None
     _, subrange, *numbers = one.values_of(line)
     return said_of_record(*one.outcome_of(subrange, *numbers))

@@ -28,7 +28,15 @@ from tempfile import TemporaryFile
 from threading import Event, Timer
 
 from damage import CR
-from inputs import AT_ONCE, example, long_answers, said_inputs, whole_inputs
+from expected import EXAMPLES, example_list
+from inputs import (
+    AT_ONCE,
+    example,
+    ill_formed_inputs,
+    long_answers,
+    said_inputs,
+    whole_inputs,
+)
 from launchlist_cases import stdin
 from lists import LINE_END, PROGRAMS, answer
 from messages import COUNTED, first_unlike, said, shown
@@ -421,6 +429,11 @@ BYTE_BY_BYTE = (
     "CR before CRLF",
     "line of 200 bytes, then good",
     "last line of 201 bytes without CRLF",
+    "ill-formed lines, good ones between",
+    "line long, without CRLF",
+    "line short of a field, without CRLF",
+    "line of a field more, without CRLF",
+    "line with an empty field, without CRLF",
 )
 
 IN_PIECES = (
@@ -450,6 +463,7 @@ ON_TERMINAL = (
     "300 lines joined by LF",
     "refused lines",
     "51 refused lines, 50 joined by LF",
+    "ill-formed lines, good ones between",
     "big list with faults",
 )
 
@@ -458,7 +472,8 @@ UNHEARD = (
     "300 lines joined by LF",
     "51 refused lines, 50 joined by LF",
     "100 lines joined by LF, one without CRLF",
-    "long answers, each 75 lines a fault",
+    "101 ill-formed lines",
+    "long answers, empty lines",
     "big list with faults",
 )
 
@@ -470,6 +485,7 @@ STATUS = {
     "header without CRLF": b"0",
     "refused lines": b"0",
     "rows joined by LF": b"0",
+    "101 ill-formed lines": b"0",
     "51 refused lines, 50 joined by LF": b"0",
     "big list with faults": b"0",
     "empty": b"1",
@@ -549,6 +565,9 @@ def slow_checks(one):
         size = 1 if len(data) < SMALL else FEW
         slow = pieces(data, size)
         yield f"{name}, by {size} bytes", check_list, data, slow, PAUSE
+    for name, data in ill_formed_inputs(one):
+        slow = pieces(data, FEW)
+        yield f"{name}, by {FEW} bytes", check_list, data, slow, PAUSE
 
 
 def launchlist_checks():
@@ -561,11 +580,22 @@ def launchlist_checks():
         yield f"all lines, by {size} bytes", check_list, every, slow, PAUSE
 
 
+def example_checks(program):
+    """The same of the runs on the example lists."""
+    for name in EXAMPLES:
+        if EXAMPLES[name] == program:
+            data = example_list(name)
+            yield f"examples/{name}.csv", check_list, data, pieces(data, AT_ONCE)
+            slow = pieces(data, FEW)
+            yield f"examples/{name}.csv, slowly", check_list, data, slow, PAUSE
+
+
 def all_list_checks(command):
     for one in PROGRAMS[program_of(command)]:
         checks = chain(list_checks(one), status_checks(one), slow_checks(one))
         for name, *check in checks:
             yield f"{one.name}, {name}", *check
+    yield from example_checks(program_of(command))
     if program_of(command) == "launchlist":
         yield from launchlist_checks()
 

@@ -34,7 +34,11 @@ from lists import (
     PROGRAMS,
     READINGS,
     RECORDS,
+    WRONG_COUNT,
+    WRONG_FIELD,
+    WRONG_LENGTH,
     WRONG_LINE,
+    LineFault,
     answer,
     joined,
     lines_of,
@@ -144,16 +148,21 @@ def family_job(programs, number, first):
 DAMAGE_SEED = 801
 DRAWN_LINES = 400
 DRAWN_CHANGES = 4000
+FIELD_LEAST = 100
 
 
 def damaged_pieces(one, generator):
-    """What stands between good lines, CRLFs included: ill-formed lines, good ones
-    with a byte replaced, with fields exchanged, and with drawn changes."""
+    """What stands between good lines, CRLFs included: ill-formed lines, such as just
+    are not, good ones with a byte replaced, with fields exchanged, and with drawn
+    changes."""
     line = drawn_lines(one, generator, DRAWN_LINES)
-    for kind, damaged in damage.ill_formed_cases(one, line):
-        if one.fault_of(damaged) is None:
-            raise CheckFailed(f"{one.name}: {kind}, {damaged} is not ill-formed")
-        yield damaged + LINE_END
+    for damaged in damage.ill_formed_cases(one, line):
+        damage.check_damaged(one, damaged)
+        yield damaged.line + LINE_END
+    for kept in damage.kept_cases(one, line):
+        if one.fault_of(kept) is not None:
+            raise CheckFailed(f"{one.name}: {kept} is ill-formed")
+        yield kept + LINE_END
     for good in (GOOD[one], NEXT[one], line()):
         yield from damage.flips(good + LINE_END)
         for damaged in damage.field_changes(good):
@@ -172,6 +181,22 @@ def run_again(programs, one, lines, found):
             found.fail(f"{shown(data)} came {shown(out)}")
 
 
+def check_damages(found, one, count, dues):
+    """That so many damages have brought enough of each fault, for each field."""
+    codes = Counter(map(code_of, dues))
+    ill_formed = sum(codes[code] for code in WRONG_LINE)
+    if ill_formed < count // 2 or codes[0] < count:
+        found.fail(f"of {count} damages come {codes}")
+    for place in range(len(one.kinds)):
+        fault = LineFault(WRONG_FIELD, place + 1)
+        met = dues.count(one.ill_formed(fault))
+        if met < FIELD_LEAST:
+            found.fail(f"field {fault.field} is named {met} times")
+    for number in (WRONG_LENGTH, WRONG_COUNT):
+        if codes[number] < FIELD_LEAST:
+            found.fail(f"{number} is given {codes[number]} times")
+
+
 def damage_job(programs, name):
     """One list with every damage in it, a good line after each."""
     one = LISTS[name]
@@ -180,18 +205,17 @@ def damage_job(programs, name):
     good = drawn_lines(one, generator, DRAWN_LINES)
     try:
         pieces = [p + good() + LINE_END for p in damaged_pieces(one, generator)]
+        data = listed(one) + b"".join(pieces)
+        _, *lines = lines_of(data)
+        for line in lines:
+            damage.check_words(one, line)
     except CheckFailed as failed:
         found.fail(f"check failed: {failed}")
         return found
-    data = listed(one) + b"".join(pieces)
-    _, *lines = lines_of(data)
     _, *dues = lines_of(answer(PROGRAM_OF[one], data))
     compare(found, one, lines, dues, programs.run(PROGRAM_OF[one], data, found))
     run_again(programs, one, lines, found)
-    codes = Counter(map(code_of, dues))
-    ill_formed = sum(codes[code] for code in WRONG_LINE)
-    if ill_formed < len(pieces) // 2 or codes[0] < len(pieces):
-        found.fail(f"of {len(pieces)} damages come {codes}")
+    check_damages(found, one, len(pieces), dues)
     return found
 
 
