@@ -1,4 +1,4 @@
--- So many bytes hold each answer of the bench's lists, no answer has the number of a short buffer, 14 alone carries a number, and the three faults were 10.
+-- So many bytes hold each answer of the bench's lists, its number is one of its own, 14 alone carries a number, and the three faults were 10.
 use mathlib.Core.Path.{_≡_, refl, sym}
 use mathlib.Core.Bool.{Bool, true, false}
 use mathlib.Core.List.{List, _++_}
@@ -43,8 +43,8 @@ use Rattle.row.specs.Places.{givenAt}
 use Rattle.row.specs.Records.{recordFrom}
 use Rattle.row.specs.Resistances.{resistancesFrom}
 use Rattle.line.specs.Writing.{commaed}
-use Rattle.line.specs.Promised.{AnswersFit, NeverShort, OthersBlank, FieldNamed, WereTens, HadAnswer}
-use Rattle.line.proofs.Unique.{Small, answers-fit, never-short, others-blank, field-named, were-tens, had-answer}
+use Rattle.line.specs.Promised.{AnswersFit, NumbersOfLines, OthersBlank, FieldNamed, WereTens, HadAnswer}
+use Rattle.line.proofs.Unique.{Small, answers-fit, numbers-of-lines, others-blank, field-named, were-tens, had-answer}
 use Rattle.line.proofs.Short.{names-short, name-short, letter-short, signed-few, small-row}
 use Rattle.bench.specs.Certificates.{placesWritten, records, resistances}
 use Rattle.bench.specs.Forward.{steps}
@@ -81,8 +81,8 @@ small-record row =
     let cells = recordFrom row in
     small-row records placesBytes noPlaces (subrangeNamed (cells .subrange .0)) (λ s. recordOf s cells) (λ s. refl) (omega arith) (λ s n a. places-short s cells a)
 
-pub records-never-short : NeverShort records
-records-never-short = never-short records placesBytes small-record
+pub records-numbers : NumbersOfLines records
+records-numbers = numbers-of-lines records placesBytes small-record
 
 pub records-fit : AnswersFit records certificateRoom
 records-fit = answers-fit records placesBytes small-record (names-short _ name-short _ _ _ _) (omega arith) (omega arith)
@@ -105,8 +105,8 @@ small-resistances row =
     small-row resistances placesBytes noPlaces (subrangeNamed (cells .subrange .0)) (λ s. resistancesOf s cells) (λ s. refl) (omega arith)
     (λ s n a e. places-short s (ratiosOf cells) a (passed (outside cells) 1 (recordOf s (ratiosOf cells) .tests) (omega arith) e .1))
 
-pub resistances-never-short : NeverShort resistances
-resistances-never-short = never-short resistances placesBytes small-resistances
+pub resistances-numbers : NumbersOfLines resistances
+resistances-numbers = numbers-of-lines resistances placesBytes small-resistances
 
 pub resistances-fit : AnswersFit resistances certificateRoom
 resistances-fit = answers-fit resistances placesBytes small-resistances (names-short _ name-short _ _ _ _) (omega arith) (omega arith)
@@ -137,8 +137,8 @@ small-step row =
     small-row steps ratioBytes noRatio (lawNamed (given .law .0)) (λ law. forwardCertificate (certificateOf law given) (integerAt 2 row)) (λ law. refl) (omega arith)
     (λ law n. ratio-short given (integerAt 2 row) law)
 
-pub steps-never-short : NeverShort steps
-steps-never-short = never-short steps ratioBytes small-step
+pub steps-numbers : NumbersOfLines steps
+steps-numbers = numbers-of-lines steps ratioBytes small-step
 
 pub steps-fit : AnswersFit steps ratioRoom
 steps-fit = answers-fit steps ratioBytes small-step (names-short _ name-short _ _ _ _) (omega arith) (omega arith)
@@ -187,8 +187,8 @@ small-test row =
     small-row tolerances resultBytes noResult (classNamed letter) (λ class. testByClass class (integerAt 2 row) (countAt 3 row) (countAt 4 row)) (λ class. refl) (omega arith)
     (λ class n. result-short (integerAt 2 row) (countAt 3 row) (countAt 4 row) class (class-top letter class n))
 
-pub results-never-short : NeverShort tolerances
-results-never-short = never-short tolerances resultBytes small-test
+pub results-numbers : NumbersOfLines tolerances
+results-numbers = numbers-of-lines tolerances resultBytes small-test
 
 pub results-fit : AnswersFit tolerances resultRoom
 results-fit = answers-fit tolerances resultBytes small-test (names-short _ letter-short _ _ _ _) (omega arith) (omega arith)

@@ -96,7 +96,10 @@ fn order_part(fd: i32) -> bool {
             fd,
             b"the order 3, 1, 2, 4, 5, 6, 7, a step 3, 7, 8, 9, a tolerance test 3, 8, 9\n",
         )
-        & put(fd, b"of the bath, then 1, 2, 8, 9:\n\n")
+        & put(
+            fd,
+            b"of the bath, then 1, 2, 8, 9; before all of them 12, 13, 14:\n\n",
+        )
 }
 
 fn code_part(fd: i32) -> bool {
@@ -117,32 +120,44 @@ fn code_part(fd: i32) -> bool {
         & put(fd, b"    8  below the range\n    9  above the range\n")
         & put(
             fd,
-            b"    10 ill-formed line, answered ?,?, and empty columns\n\n",
+            b"    12 more than 200 bytes\n    13 not as many fields as the first line\n",
         )
-        & put(fd, b"After a wrong first line nothing more is read.\n\n")
+        & put(
+            fd,
+            b"    14 a field breaks its rule; its number, from 1, stands in the first\n",
+        )
+        & put(
+            fd,
+            b"       column after the two ? that 12, 13 and 14 have for their names\n\n",
+        )
+        & put(
+            fd,
+            b"After a wrong first line, answered by 10, nothing more is read.\n\n",
+        )
 }
 
 fn people_part(fd: i32) -> bool {
     put(
         fd,
-        b"On standard error: a wrong first line, lines joined to one by a LF without\n",
+        b"On standard error: a wrong first line, what is wrong with a line of 12, 13\n",
     )
         & put(
             fd,
-            b"CR, the first cell at fault of a refused record, failures to read or write,\n",
+            b"or 14, lines joined to one by a LF without CR, the first cell at fault of a\n",
         )
         & put(
             fd,
-            b"and on a terminal how many lines were answered and refused. A program in\n",
+            b"refused record, failures to read or write, and on a terminal how many lines\n",
         )
         & put(
             fd,
-            b"Rattle cannot set its exit status: --status writes 0, or 1 after a wrong\n",
+            b"were answered and refused. A program in Rattle cannot set its exit status:\n",
         )
         & put(
             fd,
-            b"first line or a failure, to descriptor 3, and ./run makes its own of it.\n",
+            b"--status writes 0, or 1 after a wrong first line or a failure, to\n",
         )
+        & put(fd, b"descriptor 3, and ./run makes its own of it.\n")
 }
 
 // Whether all of it was written.

@@ -44,11 +44,11 @@ fn answer_part(fd: i32) -> bool {
         & put(fd, b"is answered by a line\n\n    id,law,t,code\n\n")
         & put(
             fd,
-            b"with t in steps of 0.1 mK from 0 C and code 0, or t empty and a code,\n",
+            b"with t in steps of 0.1 mK from 0 C and code 0, or no temperature and a code,\n",
         )
         & put(
             fd,
-            b"the first that applies in the order 10, 3, 7, 1, 2, 8, 9:\n\n",
+            b"the first that applies in the order 12, 13, 14, 3, 7, 1, 2, 8, 9:\n\n",
         )
 }
 
@@ -63,32 +63,46 @@ fn code_part(fd: i32) -> bool {
             b"    7  certificate beyond a limit, or an unused place not 0\n",
         )
         & put(fd, b"    8  below the range\n    9  above the range\n")
-        & put(fd, b"    10 ill-formed line, answered ?,?,,10\n\n")
+        & put(fd, b"    12 more than 200 bytes, answered ?,?,,12\n")
         & put(
             fd,
-            b"After a wrong first line nothing more is read. A certificate is read by\n",
+            b"    13 not as many fields as the first line, answered ?,?,,13\n",
         )
-        & put(fd, b"the scale or refused, never by the curve.\n\n")
+        & put(
+            fd,
+            b"    14 a field breaks its rule, answered ?,?,5,14 with its number from 1\n\n",
+        )
+        & put(
+            fd,
+            b"After a wrong first line, answered ?,?,,10, nothing more is read. A\n",
+        )
+        & put(
+            fd,
+            b"certificate is read by the scale or refused, never by the curve.\n\n",
+        )
 }
 
 fn people_part(fd: i32) -> bool {
     put(
         fd,
-        b"On standard error: a wrong first line, lines joined to one by a LF without\n",
+        b"On standard error: a wrong first line, what is wrong with a line of 12, 13\n",
     )
         & put(
             fd,
-            b"CR, failures to read or write, and on a terminal how many lines were\n",
+            b"or 14, lines joined to one by a LF without CR, failures to read or write,\n",
         )
         & put(
             fd,
-            b"answered and refused. A program in Rattle cannot set its exit status:\n",
+            b"and on a terminal how many lines were answered and refused. A program in\n",
         )
         & put(
             fd,
-            b"--status writes 0, or 1 after a wrong first line or a failure, to\n",
+            b"Rattle cannot set its exit status: --status writes 0, or 1 after a wrong\n",
         )
-        & put(fd, b"descriptor 3, and ./run makes its own status of it.\n")
+        & put(
+            fd,
+            b"first line or a failure, to descriptor 3, and ./run makes its own of it.\n",
+        )
 }
 
 // Whether all of it was written.

@@ -14,13 +14,13 @@ use Rattle.quantity.proofs.Outcomes.{some-number}
 use Rattle.text.specs.Joined.{joined}
 use Rattle.text.specs.Decimal.{decimal}
 use Rattle.text.specs.declared.columns.Fault.{Fault}
-use Rattle.text.specs.declared.columns.Fault.the-variants.{TooLong, Miscounted, Broken}
+use Rattle.text.specs.declared.columns.Fault.the-variants.{TooLong, WrongCount, Broken}
 use Rattle.text.specs.Columns.{wellFormed, faultOf, values, fieldAt}
 use Rattle.text.proofs.Faults.{no-fault}
 use Rattle.text.proofs.Names.{Repeated}
 use Rattle.line.specs.declared.lent.Placing.{Placing}
 use Rattle.line.specs.Kinds.{Kind, lineEnd, answerLine, blanks, ownColumns, refusalOf, faultColumns, namelessLine, faultLine}
-use Rattle.line.specs.Writing.{commaed, refusedText, faultNames, faultText}
+use Rattle.line.specs.Writing.{commaed, refusedText, faultStart, faultText}
 use Rattle.line.specs.Lent.{PlacedAs, AnsweredAs}
 
 -- texts joined by commas, the last one aside, have a comma after each
@@ -61,9 +61,9 @@ module _ (kind : Kind) (line out out′ : List ℕ) (x : Placing) (w : wellForme
 -- ---- a line that is no row
 -- the names of a fault's answer, and then a comma for each own column: the first own column stands before the first comma
 fault-text : (title : String) (titles : List String) (fault : Fault) (why : Refusal)
-    → refusedText (faultNames fault) (commaed (blanks (title ∷ titles))) (numberOf why) ≡ namelessLine (faultColumns (title ∷ titles) fault) why
+    → refusedText (faultStart fault) (commaed (blanks (title ∷ titles))) (numberOf why) ≡ namelessLine (faultColumns (title ∷ titles) fault) why
 fault-text title titles TooLong why = answer-text (ascii "?") (ascii "?") (blanks (title ∷ titles)) (numberOf why)
-fault-text title titles Miscounted why = answer-text (ascii "?") (ascii "?") (blanks (title ∷ titles)) (numberOf why)
+fault-text title titles WrongCount why = answer-text (ascii "?") (ascii "?") (blanks (title ∷ titles)) (numberOf why)
 fault-text title titles (Broken n) why =
     ap (λ (l : List ℕ). l ++ decimal (numberOf why) ++ lineEnd)
     (append-assoc (ascii "?,?,") (decimal n) (commaed (blanks (title ∷ titles))) ∙ ap (λ (l : List ℕ). ascii "?,?," ++ l) (sym (append-assoc (decimal n) (ascii ",") (commaed (blanks titles)))))

@@ -24,7 +24,7 @@ use Rattle.text.specs.Columns.{Value, wellFormed, fieldAt, countAt}
 use Rattle.row.specs.Places.{givenAt}
 use Rattle.row.specs.Readings.{columns}
 use Rattle.line.specs.Readings.{readings, readingRoom}
-use Rattle.line.specs.Promised.{OneAnswer, OneAnswerInto, AnswersFit, NeverShort, OthersBlank, FieldNamed, WereTens, HadAnswer}
+use Rattle.line.specs.Promised.{OneAnswer, OneAnswerInto, AnswersFit, NumbersOfLines, OthersBlank, FieldNamed, WereTens, HadAnswer}
 use Rattle.line.proofs.Unique as unique
 use Rattle.line.proofs.Unique.{Small}
 use Rattle.line.proofs.Short.{names-short, name-short, signed-few, small-row}
@@ -60,8 +60,8 @@ small-reading row =
 short : (line : List ℕ) → wellFormed columns line ≡ true → length (fieldAt 0 line) + length (fieldAt 1 line) ≤ 24
 short line w = names-short _ name-short _ _ _ _ line w
 
-pub readings-never-short : NeverShort readings
-readings-never-short = unique.never-short readings 9 small-reading
+pub readings-numbers : NumbersOfLines readings
+readings-numbers = unique.numbers-of-lines readings 9 small-reading
 
 pub readings-fit : AnswersFit readings readingRoom
 readings-fit = unique.answers-fit readings 9 small-reading short (omega arith) (omega arith)

@@ -1,6 +1,6 @@
--- A line has one answer, which is short, never has the number of a short buffer, and is what it was before request 2 unless that was 10: for lists of every kind.
+-- A line has one answer, which is short, has a number of its own, and is what it was before request 2 unless that was 10: for lists of every kind.
 use mathlib.Core.Path.{_≡_, refl, sym, ap, _∙_, subst}
-use mathlib.Core.Bool.{Bool, true, false, true≢false}
+use mathlib.Core.Bool.{Bool, true, false, true≢false, _||_}
 use mathlib.Core.List.{List, [], _∷_, _++_}
 use mathlib.Core.Option.{Option, none, some}
 use Prim.Native.Nat.{ℕ, _+_, _≤_}
@@ -8,24 +8,25 @@ use Prim.Native.String.{String}
 use native.Mathlib.Omega.{arith}
 use lib.Dec.{leb, eqb}
 use lib.ListN.{length, length-append}
-use borrow.Author.Tests.{eq-eqb, ne-eqb}
+use borrow.Author.Tests.{le-leb, eq-eqb, ne-eqb}
+use Rattle.whole.specs.Choice.{if_then_else_}
 use Rattle.whole.specs.Text.{ascii}
 use Rattle.whole.proofs.Choice.{if-both}
 use Rattle.quantity.specs.Outcomes.{Outcome, Follows}
 use Rattle.quantity.specs.Refusals.{numberOf}
 use Rattle.quantity.specs.declared.refusal.Refusal.the-variants.{FieldBroken}
 use Rattle.text.specs.declared.columns.Fault.{Fault}
-use Rattle.text.specs.declared.columns.Fault.the-variants.{TooLong, Miscounted, Broken}
+use Rattle.text.specs.declared.columns.Fault.the-variants.{TooLong, WrongCount, Broken}
 use Rattle.text.specs.Decimal.{decimal}
 use Rattle.text.specs.Columns.{Column, Value, faultOf, wellFormed, values, fieldAt}
 use Rattle.text.specs.Promised.{FirstToBreak}
 use Rattle.text.proofs.Decimals.{few-digits}
 use Rattle.text.proofs.Faults.{first-named, a-row, some-fault}
 use Rattle.line.specs.declared.lent.LineAnswer.{LineAnswer}
-use Rattle.line.specs.Kinds.{Kind, lineEnd, RowAnswered, AnsweredBy, answerLine, blanks, ownColumns, refusalOf, faultColumns, namelessLine}
+use Rattle.line.specs.Kinds.{Kind, lineEnd, RowAnswered, AnsweredBy, answerLine, blanks, ownColumns, refusalOf, isFault, faultColumns, namelessLine}
 use Rattle.line.specs.Writing.{commaed}
 use Rattle.line.specs.Lent.{Placed}
-use Rattle.line.specs.Promised.{OneAnswer, OneAnswerInto, AnswersFit, NeverShort, OthersBlank, FieldNamed, AnsweredBefore, isFault, WereTens, HadAnswer}
+use Rattle.line.specs.Promised.{OneAnswer, OneAnswerInto, AnswersFit, NumbersOfLines, OthersBlank, FieldNamed, AnsweredBefore, WereTens, HadAnswer}
 use Rattle.line.proofs.Answers.{answer-text}
 
 -- ---- in a lent buffer
@@ -61,7 +62,7 @@ pub record Small (kind : Kind) (bytes : ℕ) (o : Outcome (kind .Answer)) : Type
 -- the own columns of a fault have a number of at most two digits more than empty ones
 fault-columns : (titles : List String) (fault : Fault) → ((n : ℕ) → fault ≡ Broken n → n ≤ 99) → length (commaed (faultColumns titles fault)) ≤ length (commaed (blanks titles)) + 2
 fault-columns titles TooLong few = omega arith
-fault-columns titles Miscounted few = omega arith
+fault-columns titles WrongCount few = omega arith
 fault-columns [] (Broken n) few = omega arith
 fault-columns (title ∷ titles) (Broken n) few =
     let digits : length (decimal n) ≤ 2 = few-digits 1 n (omega (arith, few n refl)) in
@@ -70,8 +71,21 @@ fault-columns (title ∷ titles) (Broken n) few =
 
 fault-number : (fault : Fault) → numberOf (refusalOf fault) ≤ 99
 fault-number TooLong = omega arith
-fault-number Miscounted = omega arith
+fault-number WrongCount = omega arith
 fault-number (Broken n) = omega arith
+
+-- which numbers are those of a fault
+few-no-fault : (n : ℕ) → n ≤ 9 → isFault n ≡ false
+few-no-fault n h = rw (ne-eqb n 12 (λ e. omega arith), ne-eqb n 13 (λ e. omega arith), ne-eqb n 14 (λ e. omega arith))
+
+is-fault : (fault : Fault) (n : ℕ) → n ≡ numberOf (refusalOf fault) → isFault n ≡ true
+is-fault TooLong n e = rw e
+is-fault WrongCount n e = rw e
+is-fault (Broken field) n e = rw e
+
+or-true : (t : Bool) → (t || true) ≡ true
+or-true true = refl
+or-true false = refl
 
 -- a fault that is found names a column, and no list has many
 found-few : (columns : List Column) → length columns ≤ 99 → (line : List ℕ) (fault : Fault) → faultOf columns line ≡ some fault → (n : ℕ) → fault ≡ Broken n → n ≤ 99
@@ -81,14 +95,12 @@ module _ (kind : Kind) (bytes : ℕ) (small : (row : List Value) (o : Outcome (k
   row-few : (line : List ℕ) (n : ℕ) (t : List ℕ) → RowAnswered kind line n t → n ≤ 9
   row-few line n t (o, h, e, f) = omega (arith, small (values (kind .columns) line) o h .code, e)
 
-  pub never-short : NeverShort kind
-  never-short line n t h e = by (faultOf (kind .columns) line) h
+  pub numbers-of-lines : NumbersOfLines kind
+  numbers-of-lines line n t = by (faultOf (kind .columns) line)
     where
-      by : (found : Option Fault) → AnsweredBy kind line found n t → ⊥
-      by none h = omega (arith, row-few line n t h, e)
-      by (some TooLong) h = omega (arith, h .0, e)
-      by (some Miscounted) h = omega (arith, h .0, e)
-      by (some (Broken field)) h = omega (arith, h .0, e)
+      by : (found : Option Fault) → AnsweredBy kind line found n t → (leb n 9 || isFault n) ≡ true
+      by none h = rw (le-leb n 9 (row-few line n t h))
+      by (some fault) h = rw (is-fault fault n (h .0)) (or-true (leb n 9))
 
   -- ---- how many bytes
   line-few : (first second : List ℕ) (own : List (List ℕ)) (code digits : ℕ) → length (decimal code) ≤ digits
@@ -120,14 +132,14 @@ module _ (kind : Kind) (bytes : ℕ) (small : (row : List Value) (o : Outcome (k
   pub others-blank : OthersBlank kind
   others-blank line n t h not-read not-14 = by (faultOf (kind .columns) line) h
     where
-      by : (found : Option Fault) → AnsweredBy kind line found n t → (first : List ℕ) × (second : List ℕ) × (t ≡ answerLine first second (blanks (kind .own)) n)
+      by : (found : Option Fault) → AnsweredBy kind line found n t
+          → t ≡ (if isFault n then answerLine (ascii "?") (ascii "?") (blanks (kind .own)) n else answerLine (fieldAt 0 line) (fieldAt 1 line) (blanks (kind .own)) n)
       by none (o, h, e, f) =
-          let first = fieldAt 0 line in
-          let second = fieldAt 1 line in
           let own : ownColumns kind o ≡ blanks (kind .own) = rw (ne-eqb (o .code) 0 (λ z. not-read (e ∙ z))) in
-          (first, second, f ∙ ap (λ (own : List (List ℕ)). answerLine first second own (o .code)) own ∙ ap (answerLine first second (blanks (kind .own))) (sym e))
-      by (some TooLong) (e, f) = (ascii "?", ascii "?", rw e f)
-      by (some Miscounted) (e, f) = (ascii "?", ascii "?", rw e f)
+          rw (few-no-fault n (omega (arith, e, small (values (kind .columns) line) o h .code)))
+          (f ∙ ap (λ (own : List (List ℕ)). answerLine (fieldAt 0 line) (fieldAt 1 line) own (o .code)) own ∙ ap (answerLine (fieldAt 0 line) (fieldAt 1 line) (blanks (kind .own))) (sym e))
+      by (some TooLong) (e, f) = rw (is-fault TooLong n e) (f ∙ ap (answerLine (ascii "?") (ascii "?") (blanks (kind .own))) (sym e))
+      by (some WrongCount) (e, f) = rw (is-fault WrongCount n e) (f ∙ ap (answerLine (ascii "?") (ascii "?") (blanks (kind .own))) (sym e))
       by (some (Broken field)) (e, f) = absurd (not-14 e)
 
   pub field-named : FieldNamed kind
@@ -137,7 +149,7 @@ module _ (kind : Kind) (bytes : ℕ) (small : (row : List Value) (o : Outcome (k
           → (field : ℕ) × FirstToBreak (kind .columns) line field × (t ≡ namelessLine (faultColumns (kind .own) (Broken field)) FieldBroken)
       by none e h = absurd (omega (arith, row-few line (numberOf FieldBroken) t h))
       by (some TooLong) e (i, f) = absurd (omega (arith, i))
-      by (some Miscounted) e (i, f) = absurd (omega (arith, i))
+      by (some WrongCount) e (i, f) = absurd (omega (arith, i))
       by (some (Broken field)) e (i, f) = (field, first-named (kind .columns) line field e, f)
 
   -- ---- before request 2
@@ -149,14 +161,6 @@ module _ (kind : Kind) (bytes : ℕ) (small : (row : List Value) (o : Outcome (k
       by (some fault) e h = (10, answerLine (ascii "?") (ascii "?") (blanks (kind .own)) 10, rw (some-fault (kind .columns) line fault e) (refl, refl))
 
   module _ (one : (row : List Value) (o o′ : Outcome (kind .Answer)) → Follows (kind .rule row) o → Follows (kind .rule row) o′ → o ≡ o′) where
-    few-no-fault : (n : ℕ) → n ≤ 9 → isFault n ≡ false
-    few-no-fault n h = rw (ne-eqb n 12 (λ e. omega arith), ne-eqb n 13 (λ e. omega arith), ne-eqb n 14 (λ e. omega arith))
-
-    is-fault : (fault : Fault) (n : ℕ) → n ≡ numberOf (refusalOf fault) → isFault n ≡ true
-    is-fault TooLong n e = rw e
-    is-fault Miscounted n e = rw e
-    is-fault (Broken field) n e = rw e
-
     pub were-tens : WereTens kind
     were-tens line n before t textBefore h k = by (faultOf (kind .columns) line) refl h
       where

@@ -1,5 +1,6 @@
 -- A list has a kind, and a line of it an answer.
 use mathlib.Core.Path.{_≡_}
+use mathlib.Core.Bool.{Bool, _||_}
 use mathlib.Core.List.{List, [], _∷_, _++_, map}
 use mathlib.Core.Option.{Option, none, some}
 use Prim.Native.Nat.{ℕ}
@@ -9,12 +10,12 @@ use Rattle.whole.specs.Choice.{if_then_else_}
 use Rattle.whole.specs.Text.{ascii}
 use Rattle.quantity.specs.Refusals.{numberOf}
 use Rattle.quantity.specs.declared.refusal.Refusal.{Refusal}
-use Rattle.quantity.specs.declared.refusal.Refusal.the-variants.{WrongHeader, LineTooLong, FieldsMiscounted, FieldBroken}
+use Rattle.quantity.specs.declared.refusal.Refusal.the-variants.{WrongHeader, LineTooLong, WrongFieldCount, FieldBroken}
 use Rattle.quantity.specs.Outcomes.{Outcome, Rule, Follows}
 use Rattle.text.specs.Joined.{joined}
 use Rattle.text.specs.Decimal.{decimal}
 use Rattle.text.specs.declared.columns.Fault.{Fault}
-use Rattle.text.specs.declared.columns.Fault.the-variants.{TooLong, Miscounted, Broken}
+use Rattle.text.specs.declared.columns.Fault.the-variants.{TooLong, WrongCount, Broken}
 use Rattle.text.specs.Columns.{Column, Value, headerOf, faultOf, values, fieldAt}
 
 -- A kind of list: the columns of a row; the title of the answer's second column, and of its own columns, which stand between that and the code; what is answered
@@ -59,13 +60,16 @@ RowAnswered kind line number text =
 -- The refusal that a line's fault is.
 abbrev pub refusalOf : Fault → Refusal
 refusalOf TooLong = LineTooLong
-refusalOf Miscounted = FieldsMiscounted
+refusalOf WrongCount = WrongFieldCount
 refusalOf (Broken number) = FieldBroken
 
--- The own columns of a faulty line. 14 is the one refusal that carries a number: that of the field, in the first of them. Every other leaves them all empty.
+abbrev pub isFault : ℕ → Bool
+isFault number = eqb number (numberOf LineTooLong) || eqb number (numberOf WrongFieldCount) || eqb number (numberOf FieldBroken)
+
+-- The own columns of a faulty line, of which every kind has one at least. 14 is the one refusal that carries a number: that of the field, in the first of them. Every other leaves them all empty.
 abbrev pub faultColumns : List String → Fault → List (List ℕ)
 faultColumns titles TooLong = blanks titles
-faultColumns titles Miscounted = blanks titles
+faultColumns titles WrongCount = blanks titles
 faultColumns [] (Broken number) = []
 faultColumns (title ∷ titles) (Broken number) = decimal number ∷ blanks titles
 

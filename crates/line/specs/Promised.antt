@@ -1,19 +1,19 @@
 -- What is promised of answers to lines besides each call's own outcome.
 use mathlib.Core.Path.{_≡_}
-use mathlib.Core.Bool.{Bool, false, _||_}
+use mathlib.Core.Bool.{true, false, _||_}
 use mathlib.Core.List.{List}
 use Prim.Native.Nat.{ℕ, _≤_}
-use lib.Dec.{eqb}
+use lib.Dec.{leb, eqb}
 use lib.ListN.{length}
 use Rattle.whole.specs.Choice.{if_then_else_}
 use Rattle.whole.specs.Text.{ascii}
 use Rattle.quantity.specs.Refusals.{numberOf}
-use Rattle.quantity.specs.declared.refusal.Refusal.the-variants.{BufferShort, LineTooLong, FieldsMiscounted, FieldBroken}
+use Rattle.quantity.specs.declared.refusal.Refusal.the-variants.{FieldBroken}
 use Rattle.text.specs.declared.columns.Fault.the-variants.{Broken}
-use Rattle.text.specs.Columns.{wellFormed}
+use Rattle.text.specs.Columns.{wellFormed, fieldAt}
 use Rattle.text.specs.Promised.{FirstToBreak}
 use Rattle.line.specs.declared.lent.LineAnswer.{LineAnswer}
-use Rattle.line.specs.Kinds.{Kind, answerLine, blanks, faultColumns, namelessLine, RowAnswered, Answered}
+use Rattle.line.specs.Kinds.{Kind, answerLine, blanks, isFault, faultColumns, namelessLine, RowAnswered, Answered}
 use Rattle.line.specs.Lent.{AnsweredInto}
 
 -- A line has one answer.
@@ -28,15 +28,15 @@ OneAnswerInto kind = (line out out′ out″ : List ℕ) (x y : LineAnswer) → 
 abbrev pub AnswersFit : Kind → ℕ → Type 0
 AnswersFit kind room = (line : List ℕ) (number : ℕ) (text : List ℕ) → Answered kind line number text → length text ≤ room
 
--- No answer has the number of a short buffer.
-abbrev pub NeverShort : Kind → Type 0
-NeverShort kind = (line : List ℕ) (number : ℕ) (text : List ℕ) → Answered kind line number text → number ≡ numberOf BufferShort → ⊥
+-- A row is answered by a number of one digit, any other line by that of its fault. So 10 is for a wrong header alone, and 11 for a short buffer.
+abbrev pub NumbersOfLines : Kind → Type 0
+NumbersOfLines kind = (line : List ℕ) (number : ℕ) (text : List ℕ) → Answered kind line number text → (leb number 9 || isFault number) ≡ true
 
--- 14 alone carries a number: any other refusal leaves the own columns empty.
+-- 14 alone carries a number: any other refusal leaves the own columns empty, after the names of its row or after two question marks.
 abbrev pub OthersBlank : Kind → Type 0
 OthersBlank kind =
     (line : List ℕ) (number : ℕ) (text : List ℕ) → Answered kind line number text → (number ≡ 0 → ⊥) → (number ≡ numberOf FieldBroken → ⊥)
-    → (first : List ℕ) × (second : List ℕ) × (text ≡ answerLine first second (blanks (kind .own)) number)
+    → text ≡ (if isFault number then answerLine (ascii "?") (ascii "?") (blanks (kind .own)) number else answerLine (fieldAt 0 line) (fieldAt 1 line) (blanks (kind .own)) number)
 
 -- And the number that it carries is that of the first field from the left that breaks its rule, counted from 1.
 abbrev pub FieldNamed : Kind → Type 0
@@ -51,15 +51,12 @@ AnsweredBefore kind line number text =
     if wellFormed (kind .columns) line then RowAnswered kind line number text
     else (number ≡ 10) × (text ≡ answerLine (ascii "?") (ascii "?") (blanks (kind .own)) 10)
 
-abbrev pub isFault : ℕ → Bool
-isFault number = eqb number (numberOf LineTooLong) || eqb number (numberOf FieldsMiscounted) || eqb number (numberOf FieldBroken)
-
 -- A line is 12, 13 or 14 exactly when it was 10, and any other line is answered by the same number and the same bytes.
 abbrev pub WereTens : Kind → Type 0
 WereTens kind =
     (line : List ℕ) (number before : ℕ) (text textBefore : List ℕ) → Answered kind line number text → AnsweredBefore kind line before textBefore
     → (isFault number ≡ eqb before 10) × (isFault number ≡ false → (number ≡ before) × (text ≡ textBefore))
 
--- Neither is empty: a line that is answered had an answer.
+-- Nor was the old rule empty: a line that is answered now had an answer then.
 abbrev pub HadAnswer : Kind → Type 0
 HadAnswer kind = (line : List ℕ) (number : ℕ) (text : List ℕ) → Answered kind line number text → (before : ℕ) × (textBefore : List ℕ) × AnsweredBefore kind line before textBefore

@@ -6,7 +6,7 @@ use Rattle.whole.specs.Text.{ascii}
 use Rattle.quantity.specs.Refusals.{numberOf}
 use Rattle.quantity.specs.declared.refusal.Refusal.the-variants.{BufferShort}
 use Rattle.text.specs.declared.columns.Fault.{Fault}
-use Rattle.text.specs.declared.columns.Fault.the-variants.{TooLong, Miscounted, Broken}
+use Rattle.text.specs.declared.columns.Fault.the-variants.{TooLong, WrongCount, Broken}
 use Rattle.text.specs.Decimal.{decimal}
 use Rattle.line.specs.declared.lent.Placing.{Placing}
 use Rattle.line.specs.Kinds.{refusalOf}
@@ -18,14 +18,14 @@ readText names t = names ++ t ++ ascii ",0\r\n"
 abbrev pub refusedText : List ℕ → List ℕ → ℕ → List ℕ
 refusedText names commas number = names ++ commas ++ decimal number ++ ascii "\r\n"
 
--- The answer line of a fault, `commas` being one for each own column.
-abbrev pub faultNames : Fault → List ℕ
-faultNames TooLong = ascii "?,?,"
-faultNames Miscounted = ascii "?,?,"
-faultNames (Broken number) = ascii "?,?," ++ decimal number
+-- What the answer line of a fault starts with, up to the comma after its first own column; and all of it, `commas` being one for each own column.
+abbrev pub faultStart : Fault → List ℕ
+faultStart TooLong = ascii "?,?,"
+faultStart WrongCount = ascii "?,?,"
+faultStart (Broken number) = ascii "?,?," ++ decimal number
 
 abbrev pub faultText : Fault → List ℕ → List ℕ
-faultText fault commas = refusedText (faultNames fault) commas (numberOf (refusalOf fault))
+faultText fault commas = refusedText (faultStart fault) commas (numberOf (refusalOf fault))
 
 -- Texts with a comma after each.
 abbrev pub commaed : List (List ℕ) → List ℕ

@@ -98,12 +98,7 @@ pub fn place_fault(fault: Fault, commas: &[u8], out: &mut [u8]) -> Placing
 {
     match fault {
         Fault::TooLong => place_refused(b"?,?,", commas, Refusal::LineTooLong.number(), out),
-        Fault::Miscounted => place_refused(
-            b"?,?,",
-            commas,
-            Refusal::FieldsMiscounted.number(),
-            out,
-        ),
+        Fault::WrongCount => place_refused(b"?,?,", commas, Refusal::WrongFieldCount.number(), out),
         Fault::Broken(field) => place_broken(field, commas, out),
     }
 }

@@ -1,10 +1,12 @@
--- The scope document's own list, byte for byte, which the checker computes.
+-- The scope document's own list, and lines at the edges, byte for byte, which the checker computes.
 use mathlib.Core.Path.{_≡_, refl}
 use mathlib.Core.Option.{some}
 use mathlib.Core.List.{List, [], _∷_}
 use native.Mathlib.Omega.{arith}
 use Prim.Native.Nat.{ℕ}
+use Prim.Native.Char.{code}
 use lib.IntN.{ℤ, pos}
+use lib.ListN.{replicate}
 use Rattle.whole.specs.Text.{ascii}
 use Rattle.exact.specs.Polynomial.{rounded}
 use Rattle.law.specs.declared.laws.Law.the-variants.{Curve, Scale}
@@ -25,6 +27,8 @@ use Rattle.text.specs.Decimal.{decimal}
 use Rattle.text.specs.Columns.{wellFormed, faultOf, values}
 use Rattle.line.specs.Kinds.{Answered}
 use Rattle.line.specs.Readings.{readings}
+use Rattle.bench.specs.Certificates.{records}
+use Rattle.bench.specs.Tolerances.{tolerances}
 use Rattle.text.proofs.Decimals.{decimal-one, decimal-more}
 use Rattle.list.specs.declared.kinds.Desk.the-variants.{Launch, Bench}
 use Rattle.list.specs.Kinds.{headed}
@@ -130,3 +134,39 @@ of-tolerances = ([], refl, refl)
 pub of-the-launch : ListAnswered Bench (ascii "id,law,r,r0,a,b,c,d,wal\r\n") (ascii "id,law,a,b,c,d,wal,code\r\n?,?,,,,,,10\r\n")
 unfolding decimal headed
 of-the-launch = refl
+
+-- ---- lines that are no rows
+-- an empty line has one field; 201 commas are too many bytes, whatever they say; 200 are too many fields
+pub empty-line : Answered readings [] 13 (ascii "?,?,,13\r\n")
+unfolding faultOf decimal
+empty-line = (refl, refl)
+
+pub long-line : Answered readings (replicate 201 (code ",")) 12 (ascii "?,?,,12\r\n")
+unfolding faultOf decimal
+long-line = (refl, refl)
+
+pub commas : Answered readings (replicate 200 (code ",")) 13 (ascii "?,?,,13\r\n")
+unfolding faultOf decimal
+commas = (refl, refl)
+
+-- a leading zero in a; a point in r and a leading zero in a; a lone CR in the last field
+pub leading-zero : Answered readings (ascii "F1,ag,69539313500,25000000000,07,0,0,0,3376008600") 14 (ascii "?,?,5,14\r\n")
+unfolding faultOf decimal
+leading-zero = (refl, refl)
+
+pub two-broken : Answered readings (ascii "F1,ag,69.5,25000000000,07,0,0,0,3376008600") 14 (ascii "?,?,3,14\r\n")
+unfolding faultOf decimal
+two-broken = (refl, refl)
+
+pub lone-return : Answered readings (ascii "F1,curve,138505500000,100000000000,0,0,0,0,0\r") 14 (ascii "?,?,9,14\r\n")
+unfolding faultOf decimal
+lone-return = (refl, refl)
+
+-- the same among records and tolerance tests
+pub of-a-record : Answered records (ascii "P1,zn,0,1118119605,x,1892645942,2568644990,0,0") 14 (ascii "?,?,5,,,,,14\r\n")
+unfolding faultOf decimal
+of-a-record = (refl, refl)
+
+pub of-a-test : Answered tolerances (ascii "S1,A,0,0100,100000000000") 14 (ascii "?,?,4,,14\r\n")
+unfolding faultOf decimal
+of-a-test = (refl, refl)

@@ -5,14 +5,17 @@ use Prim.Native.Nat.{ℕ, _≤_, _<_}
 use lib.ListN.{length}
 use Rattle.quantity.specs.Refusals.{numberOf}
 use Rattle.quantity.specs.declared.refusal.Refusal.the-variants.{BufferShort}
+use Rattle.text.specs.Fields.{fields}
 use Rattle.line.specs.declared.lent.LineAnswer.{LineAnswer}
+use Rattle.line.specs.Kinds.{inputHeader}
+use Rattle.list.specs.declared.kinds.Kind.{Kind}
 use Rattle.list.specs.declared.kinds.Desk.{Desk}
 use Rattle.list.specs.declared.kinds.Desk.the-variants.{Bench}
 use Rattle.list.specs.declared.state.Stage.{Stage}
 use Rattle.list.specs.declared.state.Stage.the-variants.{Header, Rows, Stopped}
 use Rattle.list.specs.declared.state.State.{State}
 use Rattle.list.specs.declared.feeding.Fed.{Fed}
-use Rattle.list.specs.Kinds.{roomOf, room}
+use Rattle.list.specs.Kinds.{kindOf, roomOf, room}
 use Rattle.list.specs.Lists.{ListAnswered}
 use Rattle.list.specs.Feeding.{lineOf, FedAs, EndedAs, Run}
 
@@ -60,3 +63,7 @@ EndFits = (st : State) (out out′ : List ℕ) (x : LineAnswer) → EndedAs st o
 -- The bench's room is enough at every stage.
 abbrev pub EnoughRoom : Type 0
 EnoughRoom = (stage : Stage) → roomAt stage ≤ room Bench
+
+-- The header of a list has as many fields as a row has columns.
+abbrev pub HeaderFields : Type 0
+HeaderFields = (k : Kind) → length (fields (inputHeader (kindOf k))) ≡ length (kindOf k .columns)

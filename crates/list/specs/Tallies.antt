@@ -7,7 +7,7 @@ use lib.ListN.{length}
 use Rattle.whole.specs.Choice.{if_then_else_}
 use Rattle.quantity.specs.Refusals.{numberOf}
 use Rattle.quantity.specs.declared.refusal.Refusal.the-variants.{WrongHeader}
-use Rattle.line.specs.Promised.{isFault}
+use Rattle.line.specs.Kinds.{isFault}
 use Rattle.list.specs.declared.tally.Tally.{Tally}
 
 -- A line is refused where the number given to it is not 0, and faulty where it is that of a line that is no row, or of a wrong header.

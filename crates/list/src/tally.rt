@@ -26,7 +26,7 @@ fn is_faulty(number: u8) -> bool
     ensures { λ r. ⌜ r ≡ isFaulty number ⌝ }
 {
     (number == Refusal::LineTooLong.number())
-        | (number == Refusal::FieldsMiscounted.number())
+        | (number == Refusal::WrongFieldCount.number())
         | (number == Refusal::FieldBroken.number())
         | (number == Refusal::WrongHeader.number())
 }

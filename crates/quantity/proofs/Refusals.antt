@@ -5,7 +5,7 @@ use Prim.Native.Nat.{ℕ, _-_}
 use native.Mathlib.Omega.{arith}
 use lib.ListN.{getD}
 use Rattle.quantity.specs.declared.refusal.Refusal.{Refusal}
-use Rattle.quantity.specs.declared.refusal.Refusal.the-variants.{ResistanceOutside, RatioAbove, NameUnknown, CellNotMeasured, PurityCellNotMeasured, Impure, BeyondLimit, BelowRange, AboveRange, WrongHeader, BufferShort, LineTooLong, FieldsMiscounted, FieldBroken, NumberUnfit, SerialClash, TooFewPlaces, NotLive, TableBad}
+use Rattle.quantity.specs.declared.refusal.Refusal.the-variants.{ResistanceOutside, RatioAbove, NameUnknown, CellNotMeasured, PurityCellNotMeasured, Impure, BeyondLimit, BelowRange, AboveRange, WrongHeader, BufferShort, LineTooLong, WrongFieldCount, FieldBroken, NumberUnfit, SerialClash, TooFewPlaces, NotLive, TableBad}
 use Rattle.quantity.specs.Refusals.{numberOf}
 
 -- the refusals by their numbers, from 1; a number that is not given has the first one's place
@@ -23,7 +23,7 @@ table =
     ∷ WrongHeader
     ∷ BufferShort
     ∷ LineTooLong
-    ∷ FieldsMiscounted
+    ∷ WrongFieldCount
     ∷ FieldBroken
     ∷ ResistanceOutside
     ∷ ResistanceOutside
@@ -53,7 +53,7 @@ back AboveRange = refl
 back WrongHeader = refl
 back BufferShort = refl
 back LineTooLong = refl
-back FieldsMiscounted = refl
+back WrongFieldCount = refl
 back FieldBroken = refl
 back NumberUnfit = refl
 back SerialClash = refl

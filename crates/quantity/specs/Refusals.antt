@@ -1,7 +1,7 @@
 -- "Numbers given when there is no answer": the number of each row of the table, and the row in short.
 use Prim.Native.Nat.{ℕ}
 use Rattle.quantity.specs.declared.refusal.Refusal.{Refusal}
-use Rattle.quantity.specs.declared.refusal.Refusal.the-variants.{ResistanceOutside, RatioAbove, NameUnknown, CellNotMeasured, PurityCellNotMeasured, Impure, BeyondLimit, BelowRange, AboveRange, WrongHeader, BufferShort, LineTooLong, FieldsMiscounted, FieldBroken, NumberUnfit, SerialClash, TooFewPlaces, NotLive, TableBad}
+use Rattle.quantity.specs.declared.refusal.Refusal.the-variants.{ResistanceOutside, RatioAbove, NameUnknown, CellNotMeasured, PurityCellNotMeasured, Impure, BeyondLimit, BelowRange, AboveRange, WrongHeader, BufferShort, LineTooLong, WrongFieldCount, FieldBroken, NumberUnfit, SerialClash, TooFewPlaces, NotLive, TableBad}
 
 abbrev pub numberOf : Refusal → ℕ
 -- R or R0 outside its limits
@@ -30,7 +30,7 @@ numberOf BufferShort = 11
 -- a line longer than its limit
 numberOf LineTooLong = 12
 -- not as many fields as the header
-numberOf FieldsMiscounted = 13
+numberOf WrongFieldCount = 13
 -- a field that breaks its rule: the one refusal that carries a number, that of the field
 numberOf FieldBroken = 14
 -- ---- of the register (request 6)

@@ -1,20 +1,19 @@
 -- A line read field by field is what its columns say.
-use mathlib.Core.Path.{_≡_, ap, _∙_}
+use mathlib.Core.Path.{_≡_}
 use mathlib.Core.Bool.{true, false}
-use mathlib.Core.List.{List}
+use mathlib.Core.List.{List, map}
 use Prim.Native.Nat.{ℕ, _+_, _≤_}
-use lib.ListN.{length, take}
-use Rattle.text.specs.declared.columns.Holds.{Holds}
-use Rattle.text.specs.Columns.{Column, Value, wellFormed, longestLine, values, namesLength}
+use lib.ListN.{length}
+use Rattle.text.specs.Columns.{Column, held, Value, wellFormed, longestLine, values, namesLength}
 use Rattle.text.specs.Scanned.{faultFound}
 use Rattle.text.proofs.Rows.{Scan, scan-row, scan-values}
 use Rattle.text.proofs.Faults.{fault-is, no-fault}
-use Rattle.row.specs.Parsing.{aRow, noRow, parsedBy, AreHeld}
+use Rattle.row.specs.Parsing.{aRow, noRow, parsedBy}
 
 -- a line that is no row, by what the columns hold
-pub not-read : {Row : Type 0} (columns : List Column) (rowOf : List ℕ → Row) (line : List ℕ) → wellFormed columns line ≡ false → (room : List Holds) → AreHeld columns room
-    → noRow (faultFound (take (length columns) room) line) ≡ parsedBy columns rowOf line
-not-read columns rowOf line w room (e, narrow) = rw (fault-is columns line w, e)
+pub not-read : {Row : Type 0} (columns : List Column) (rowOf : List ℕ → Row) (line : List ℕ) → wellFormed columns line ≡ false
+    → noRow (faultFound (map held columns) line) ≡ parsedBy columns rowOf line
+not-read columns rowOf line w = rw (fault-is columns line w)
 
 module _ {Row : Type 0} (columns : List Column) (rowFrom : ℕ → List Value → Row) (line : List ℕ) {end : ℕ} {vs : List Value} (s : Scan line columns 0 end vs) (short : length line ≤ longestLine) where
   -- one whose last field ends where the line does

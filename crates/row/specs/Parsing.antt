@@ -1,15 +1,12 @@
 -- What reading a line by its columns states.
-use mathlib.Core.Path.{_≡_}
-use mathlib.Core.Bool.{true}
-use mathlib.Core.List.{List, map}
+use mathlib.Core.List.{List, _++_, map}
 use mathlib.Core.Option.{Option, none, some}
-use Prim.Native.Nat.{ℕ}
-use lib.ListN.{length, take}
-use Rattle.whole.specs.Any.{every}
+use Prim.Native.Nat.{ℕ, _-_}
+use lib.ListN.{length, replicate}
 use Rattle.text.specs.declared.columns.Holds.{Holds}
+use Rattle.text.specs.declared.columns.Holds.the-variants.{Id}
 use Rattle.text.specs.declared.columns.Fault.{Fault}
 use Rattle.text.specs.Columns.{Column, held, faultOf}
-use Rattle.text.specs.Scanned.{isNarrow}
 
 -- A row, or why there is none.
 pub data Parsing (Row : Type 0) : Type 0 where
@@ -24,6 +21,9 @@ rowUnless (some fault) row = noRow fault
 abbrev pub parsedBy : {Row : Type 0} → List Column → (List ℕ → Row) → List ℕ → Parsing Row
 parsedBy columns rowOf line = rowUnless (faultOf columns line) (rowOf line)
 
--- What the columns of a list hold, at the start of what has room for more.
-abbrev pub AreHeld : List Column → List Holds → Type 0
-AreHeld columns room = (take (length columns) room ≡ map held columns) × (every isNarrow room ≡ true)
+-- What the columns of a list hold, in as many places as the most columns take; those that are left hold an id.
+abbrev pub mostColumns : ℕ
+mostColumns = 16
+
+abbrev pub heldBy : List Column → List Holds
+heldBy columns = map held columns ++ replicate (mostColumns - length columns) Id

@@ -2,7 +2,7 @@
 ghost use mathlib.Core.Path.{_≡_};
 ghost use mathlib.Core.Bool.{false};
 ghost use Rattle.text.specs.Columns.{wellFormed};
-ghost use Rattle.row.specs.Parsing.{AreHeld};
+ghost use Rattle.row.specs.Parsing.{heldBy};
 ghost use Rattle.row.specs.Forward.{columns, stated, parsedAs};
 use crate::digits::DIGITS;
 use certificate::Given;
@@ -20,7 +20,7 @@ use text::name_at;
 use text::number_at;
 use text::signed_at;
 
-const COLUMNS: usize = 8;
+pub const FORWARD_COLUMNS: usize = 8;
 
 // `names` is how many bytes the first two fields take, with the comma after each.
 pub struct ForwardRow {
@@ -34,9 +34,9 @@ pub enum ForwardParsed {
     NoRow(Fault),
 }
 
-// What the columns hold, and then room for more.
+// What the columns hold, in an array of the most that a list has.
 pub fn forward_columns() -> [Holds; MOST_COLUMNS]
-    ensures { λ r. ⌜ AreHeld columns r ⌝ }
+    ensures { λ r. ⌜ r ≡ heldBy columns ⌝ }
 {
     [
         Holds::Id,
@@ -62,7 +62,7 @@ fn no_row(line: &[u8]) -> ForwardParsed
     requires { ⌜ wellFormed columns (now line) ≡ false ⌝ }
     ensures { λ x. ⌜ stated x ≡ parsedAs (now (line .entry)) ⌝ }
 {
-    ForwardParsed::NoRow(fault_in(line, forward_columns(), COLUMNS))
+    ForwardParsed::NoRow(fault_in(line, forward_columns(), FORWARD_COLUMNS))
 }
 
 // What a line says, without its CRLF.

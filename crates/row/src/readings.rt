@@ -2,7 +2,7 @@
 ghost use mathlib.Core.Path.{_≡_};
 ghost use mathlib.Core.Bool.{false};
 ghost use Rattle.text.specs.Columns.{wellFormed};
-ghost use Rattle.row.specs.Parsing.{AreHeld};
+ghost use Rattle.row.specs.Parsing.{heldBy};
 ghost use Rattle.row.specs.Readings.{columns, stated, parsedAs};
 use crate::digits::DIGITS;
 use certificate::Given;
@@ -20,7 +20,7 @@ use text::name_at;
 use text::number_at;
 use text::signed_at;
 
-const COLUMNS: usize = 9;
+pub const READING_COLUMNS: usize = 9;
 
 // `names` is how many bytes the id and the law take, with the comma after each: they stand at the line's start.
 pub struct ReadingRow {
@@ -35,9 +35,9 @@ pub enum ReadingParsed {
     NoRow(Fault),
 }
 
-// What the columns hold, and then room for more.
+// What the columns hold, in an array of the most that a list has.
 pub fn reading_columns() -> [Holds; MOST_COLUMNS]
-    ensures { λ r. ⌜ AreHeld columns r ⌝ }
+    ensures { λ r. ⌜ r ≡ heldBy columns ⌝ }
 {
     [
         Holds::Id,
@@ -63,7 +63,7 @@ fn no_row(line: &[u8]) -> ReadingParsed
     requires { ⌜ wellFormed columns (now line) ≡ false ⌝ }
     ensures { λ x. ⌜ stated x ≡ parsedAs (now (line .entry)) ⌝ }
 {
-    ReadingParsed::NoRow(fault_in(line, reading_columns(), COLUMNS))
+    ReadingParsed::NoRow(fault_in(line, reading_columns(), READING_COLUMNS))
 }
 
 // What a line says, without its CRLF. After a field that breaks its rule the next one starts past every offset, so every later one breaks its rule too.

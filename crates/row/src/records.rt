@@ -2,7 +2,7 @@
 ghost use mathlib.Core.Path.{_≡_};
 ghost use mathlib.Core.Bool.{false};
 ghost use Rattle.text.specs.Columns.{wellFormed};
-ghost use Rattle.row.specs.Parsing.{AreHeld};
+ghost use Rattle.row.specs.Parsing.{heldBy};
 ghost use Rattle.row.specs.Records.{columns, stated, parsedAs};
 use crate::digits::DIGITS;
 use certificate::Record;
@@ -17,7 +17,7 @@ use text::fault_in;
 use text::name_at;
 use text::number_at;
 
-const COLUMNS: usize = 9;
+pub const RECORD_COLUMNS: usize = 9;
 
 // `names` is how many bytes the first two fields take, with the comma after each.
 pub struct RecordRow {
@@ -30,9 +30,9 @@ pub enum RecordParsed {
     NoRow(Fault),
 }
 
-// What the columns hold, and then room for more.
+// What the columns hold, in an array of the most that a list has.
 pub fn record_columns() -> [Holds; MOST_COLUMNS]
-    ensures { λ r. ⌜ AreHeld columns r ⌝ }
+    ensures { λ r. ⌜ r ≡ heldBy columns ⌝ }
 {
     [
         Holds::Id,
@@ -58,7 +58,7 @@ fn no_row(line: &[u8]) -> RecordParsed
     requires { ⌜ wellFormed columns (now line) ≡ false ⌝ }
     ensures { λ x. ⌜ stated x ≡ parsedAs (now (line .entry)) ⌝ }
 {
-    RecordParsed::NoRow(fault_in(line, record_columns(), COLUMNS))
+    RecordParsed::NoRow(fault_in(line, record_columns(), RECORD_COLUMNS))
 }
 
 // What a line says, without its CRLF.

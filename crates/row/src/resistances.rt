@@ -4,7 +4,7 @@ ghost use mathlib.Core.Bool.{false};
 ghost use Prim.Native.Nat.{_≤_};
 ghost use lib.ListN.{length};
 ghost use Rattle.text.specs.Columns.{longestLine, wellFormed};
-ghost use Rattle.row.specs.Parsing.{AreHeld};
+ghost use Rattle.row.specs.Parsing.{heldBy};
 ghost use Rattle.row.specs.Resistances.{columns, pairAt, stated, parsedAs};
 use crate::digits::DIGITS;
 use certificate::Pair;
@@ -20,7 +20,7 @@ use text::fault_in;
 use text::name_at;
 use text::number_at;
 
-const COLUMNS: usize = 16;
+pub const RESISTANCES_COLUMNS: usize = 16;
 
 // `names` is how many bytes the first two fields take, with the comma after each.
 pub struct ResistancesRow {
@@ -33,9 +33,9 @@ pub enum ResistancesParsed {
     NoRow(Fault),
 }
 
-// What the columns hold, and then room for more.
+// What the columns hold, in an array of the most that a list has.
 pub fn resistances_columns() -> [Holds; MOST_COLUMNS]
-    ensures { λ r. ⌜ AreHeld columns r ⌝ }
+    ensures { λ r. ⌜ r ≡ heldBy columns ⌝ }
 {
     [
         Holds::Id,
@@ -61,7 +61,7 @@ fn no_row(line: &[u8]) -> ResistancesParsed
     requires { ⌜ wellFormed columns (now line) ≡ false ⌝ }
     ensures { λ x. ⌜ stated x ≡ parsedAs (now (line .entry)) ⌝ }
 {
-    ResistancesParsed::NoRow(fault_in(line, resistances_columns(), COLUMNS))
+    ResistancesParsed::NoRow(fault_in(line, resistances_columns(), RESISTANCES_COLUMNS))
 }
 
 // The two resistances of a cell, and where the next field starts.

@@ -2,7 +2,7 @@
 ghost use mathlib.Core.Path.{_≡_};
 ghost use mathlib.Core.Bool.{false};
 ghost use Rattle.text.specs.Columns.{wellFormed};
-ghost use Rattle.row.specs.Parsing.{AreHeld};
+ghost use Rattle.row.specs.Parsing.{heldBy};
 ghost use Rattle.row.specs.Tolerances.{columns, stated, parsedAs};
 use crate::digits::DIGITS;
 use quantity::Celsius;
@@ -17,7 +17,7 @@ use text::letter_at;
 use text::number_at;
 use text::signed_at;
 
-const COLUMNS: usize = 5;
+pub const TOLERANCE_COLUMNS: usize = 5;
 
 // `names` is how many bytes the first two fields take, with the comma after each.
 pub struct ToleranceRow {
@@ -33,9 +33,9 @@ pub enum ToleranceParsed {
     NoRow(Fault),
 }
 
-// What the columns hold, and then room for more.
+// What the columns hold, in an array of the most that a list has.
 pub fn tolerance_columns() -> [Holds; MOST_COLUMNS]
-    ensures { λ r. ⌜ AreHeld columns r ⌝ }
+    ensures { λ r. ⌜ r ≡ heldBy columns ⌝ }
 {
     [
         Holds::Id,
@@ -61,7 +61,7 @@ fn no_row(line: &[u8]) -> ToleranceParsed
     requires { ⌜ wellFormed columns (now line) ≡ false ⌝ }
     ensures { λ x. ⌜ stated x ≡ parsedAs (now (line .entry)) ⌝ }
 {
-    ToleranceParsed::NoRow(fault_in(line, tolerance_columns(), COLUMNS))
+    ToleranceParsed::NoRow(fault_in(line, tolerance_columns(), TOLERANCE_COLUMNS))
 }
 
 // What a line says, without its CRLF.

@@ -15,7 +15,7 @@ use Rattle.whole.specs.Any.{every}
 use Rattle.whole.proofs.Choice.{and-true}
 use Rattle.text.specs.declared.columns.Holds.{Holds}
 use Rattle.text.specs.declared.columns.Fault.{Fault}
-use Rattle.text.specs.declared.columns.Fault.the-variants.{TooLong, Miscounted, Broken}
+use Rattle.text.specs.declared.columns.Fault.the-variants.{TooLong, WrongCount, Broken}
 use Rattle.text.specs.Fields.{field, later, fields}
 use Rattle.text.specs.Columns.{Column, _holds_, held, columnAt, longestLine, rule, ruleOf, firstBroken, faultOf, isNone, wellFormed}
 use Rattle.text.specs.Scanned.{nextAt, commasIn, firstLost, faultFound, isNarrow}
@@ -110,13 +110,13 @@ unfolding faultOf
 fault-is cs line w = by (ltb longestLine (length line)) refl
   where
     counted : length line ≤ longestLine → (t : Bool) → eqb (length (fields line)) (length cs) ≡ t
-        → (if not t then some Miscounted else firstBroken 1 cs (fields line)) ≡ some (if not t then Miscounted else Broken (firstLost line 1 (map held cs) 0))
+        → (if not t then some WrongCount else firstBroken 1 cs (fields line)) ≡ some (if not t then WrongCount else Broken (firstLost line 1 (map held cs) 0))
     counted h true e = found line 1 cs 0 (omega arith) (eqb-true (length (fields line)) (length cs) e) (sym (row-is cs line h) ∙ w)
     counted h false e = refl
 
     by : (t : Bool) → ltb longestLine (length line) ≡ t
-        → (if t then some TooLong else if not (eqb (length (fields line)) (length cs)) then some Miscounted else firstBroken 1 cs (fields line))
-        ≡ some (if t then TooLong else if not (eqb (commasIn line + 1) (length (map held cs))) then Miscounted else Broken (firstLost line 1 (map held cs) 0))
+        → (if t then some TooLong else if not (eqb (length (fields line)) (length cs)) then some WrongCount else firstBroken 1 cs (fields line))
+        ≡ some (if t then TooLong else if not (eqb (commasIn line + 1) (length (map held cs))) then WrongCount else Broken (firstLost line 1 (map held cs) 0))
     by true e = refl
     by false e = rw (sym (fields-long line), map-long cs) (counted (ltb-false longestLine (length line) e) (eqb (length (fields line)) (length cs)) refl)
 
@@ -145,12 +145,12 @@ a-row cs line e = ap isNone e
 -- ---- the field that is named, so many places after the first of these
 numberIn : Fault → ℕ
 numberIn TooLong = 0
-numberIn Miscounted = 0
+numberIn WrongCount = 0
 numberIn (Broken n) = n
 
 namesField : Fault → Bool
 namesField TooLong = false
-namesField Miscounted = false
+namesField WrongCount = false
 namesField (Broken n) = true
 
 record NamedAt (n m : ℕ) (cs : List Column) (fs : List (List ℕ)) : Type 0 where
@@ -181,19 +181,22 @@ named-at n m (c ∷ cs) (f ∷ fs) e = by (rule c f) refl e (named-at (n + 1) m 
 
 pub first-named : FirstNamed
 unfolding faultOf namesField
-first-named cs line m e = by (ltb longestLine (length line)) (eqb (length (fields line)) (length cs)) e
+first-named cs line m e = by (ltb longestLine (length line)) (eqb (length (fields line)) (length cs)) refl refl e
   where
-    is : NamedAt 1 m cs (fields line) → FirstToBreak cs line m
-    is at =
+    is : length line ≤ longestLine → length (fields line) ≡ length cs → NamedAt 1 m cs (fields line) → FirstToBreak cs line m
+    is short counted at =
         let place : m - 1 ≡ at .place = omega (arith, at .number) in
         record {
+          short = short;
+          counted = counted;
           from-one = omega (arith, at .number);
           to-last = omega (arith, at .number, at .within);
           breaks = rw place (at .breaks);
           before = λ j h. at .before j (omega (arith, h, place));
         }
 
-    by : (t u : Bool) → (if t then some TooLong else if not u then some Miscounted else firstBroken 1 cs (fields line)) ≡ some (Broken m) → FirstToBreak cs line m
-    by true u e = absurd (true≢false (sym (ap namesField (Option·some-injective TooLong (Broken m) e))))
-    by false false e = absurd (true≢false (sym (ap namesField (Option·some-injective Miscounted (Broken m) e))))
-    by false true e = is (named-at 1 m cs (fields line) e)
+    by : (t u : Bool) → ltb longestLine (length line) ≡ t → eqb (length (fields line)) (length cs) ≡ u
+        → (if t then some TooLong else if not u then some WrongCount else firstBroken 1 cs (fields line)) ≡ some (Broken m) → FirstToBreak cs line m
+    by true u l c e = absurd (true≢false (sym (ap namesField (Option·some-injective TooLong (Broken m) e))))
+    by false false l c e = absurd (true≢false (sym (ap namesField (Option·some-injective WrongCount (Broken m) e))))
+    by false true l c e = is (ltb-false longestLine (length line) l) (eqb-true (length (fields line)) (length cs) c) (named-at 1 m cs (fields line) e)

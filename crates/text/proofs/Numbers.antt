@@ -1,5 +1,5 @@
 -- What a field says that is to hold a number, digit by digit.
-use mathlib.Core.Path.{_≡_, refl, sym, subst, _∙_}
+use mathlib.Core.Path.{_≡_, refl, sym, ap, subst, _∙_}
 use mathlib.Core.Bool.{Bool, true, false, _&&_}
 use mathlib.Core.List.{List, [], _∷_}
 use native.Mathlib.Nat.{pow-le-pow-right}
@@ -8,10 +8,13 @@ use Prim.Native.Nat.{ℕ, zero, suc, _+_, _-_, _*_, _^_, _≤_, _<_}
 use Prim.Native.Char.{code}
 use lib.Dec.{leb, eqb, lit<}
 use lib.ListN.{length, take, getD}
-use borrow.Author.Tests.{le-leb, lt-leb, ne-eqb}
+use borrow.Author.Tests.{le-leb, lt-leb, leb-true, ne-eqb}
+use Rattle.whole.specs.Choice.{if_then_else_}
+use Rattle.whole.proofs.Choice.{and-true}
+use Rattle.text.specs.declared.field.Scanned.{Scanned}
 use Rattle.text.specs.Fields.{field, sized, every, digit}
 use Rattle.text.specs.Numbers.{mostDigits, leadingZero, isNumber, valueOf}
-use Rattle.text.specs.Scanned.{closesAt, scannedIf, scannedIn}
+use Rattle.text.specs.Scanned.{closesAt, nowhere, scannedIf, scannedIn}
 use Rattle.text.proofs.Digits.{number-more, digit-bounds, pow-more}
 use Rattle.text.proofs.Spans.{Span, span-start, span-more, Ending, whole, none, and-false}
 use Rattle.text.proofs.Offsets.{field-length}
@@ -83,3 +86,47 @@ pub number-short : (most : ℕ) (s : List ℕ) → length s ≤ most → scanned
 number-short most s h =
     let fits = field-length s in
     rw (le-leb (length (field s)) (length s) fits, le-leb (length (field s)) most (omega arith))
+
+-- ---- no more digits than a column has
+module _ (most : ℕ) (few : most ≤ mostDigits) (s : List ℕ) where
+  -- a number of so many digits is one of the most
+  narrower : isNumber mostDigits (field s) ≡ false → isNumber most (field s) ≡ false
+  narrower e = by (isNumber most (field s)) refl
+    where
+      by : (t : Bool) → isNumber most (field s) ≡ t → t ≡ false
+      by false h = refl
+      by true h =
+          let p = and-true (sized 1 most (field s) && every digit (field s)) _ h in
+          let q = and-true (sized 1 most (field s)) (every digit (field s)) (p .0) in
+          let size = and-true (leb 1 (length (field s))) (leb (length (field s)) most) (q .0) in
+          let short = leb-true (length (field s)) most (size .1) in
+          sym (rw (size .0, le-leb (length (field s)) mostDigits (omega arith), q .1, p .1)) ∙ e
+
+  -- and the other way round where it has no more than so many
+  wider : isNumber mostDigits (field s) ≡ true → isNumber most (field s) ≡ leb (length (field s)) most
+  wider h =
+      let p = and-true (sized 1 mostDigits (field s) && every digit (field s)) _ h in
+      let q = and-true (sized 1 mostDigits (field s)) (every digit (field s)) (p .0) in
+      let size = and-true (leb 1 (length (field s))) (leb (length (field s)) mostDigits) (q .0) in
+      rw (size .0, q .1, p .1) (both (leb (length (field s)) most))
+    where
+      both : (t : Bool) → (t && true && true) ≡ t
+      both true = refl
+      both false = refl
+
+  module _ (n : Scanned) (is : n ≡ scannedIn (isNumber mostDigits) valueOf s) where
+    pub number-few : n .next ≤ most + 1 → n ≡ scannedIn (isNumber most) valueOf s
+    number-few h = is ∙ by (isNumber mostDigits (field s)) refl (ap (λ (x : Scanned). x .next) is)
+      where
+        by : (t : Bool) → isNumber mostDigits (field s) ≡ t → n .next ≡ (if t then length (field s) + 1 else nowhere (length s))
+            → scannedIf t (valueOf (field s)) (length (field s)) s ≡ scannedIn (isNumber most) valueOf s
+        by true e k = rw (wider e, le-leb (length (field s)) most (omega (arith, h, k)))
+        by false e k = rw (narrower e)
+
+    pub number-more-digits : most + 1 < n .next → scannedIf false 0 0 s ≡ scannedIn (isNumber most) valueOf s
+    number-more-digits h = by (isNumber mostDigits (field s)) refl (ap (λ (x : Scanned). x .next) is)
+      where
+        by : (t : Bool) → isNumber mostDigits (field s) ≡ t → n .next ≡ (if t then length (field s) + 1 else nowhere (length s))
+            → scannedIf false 0 0 s ≡ scannedIn (isNumber most) valueOf s
+        by true e k = rw (wider e, lt-leb (length (field s)) most (omega (arith, h, k)))
+        by false e k = rw (narrower e)

@@ -21,7 +21,7 @@ use Rattle.text.specs.Numbers.{isNumber, valueOf}
 use Rattle.text.specs.declared.columns.Holds.{Holds}
 use Rattle.text.specs.declared.columns.Holds.the-variants as holds
 use Rattle.text.specs.declared.columns.Fault.{Fault}
-use Rattle.text.specs.declared.columns.Fault.the-variants.{Miscounted, Broken}
+use Rattle.text.specs.declared.columns.Fault.the-variants.{WrongCount, Broken}
 use Rattle.text.specs.Columns as columns
 use Rattle.text.specs.Columns.{Column, _holds_, isId, isName, isLetter, longestLine, rule, ruleOf, firstBroken, faultOf, isNone, wellFormed, Value, firstByte, saidBy, values}
 use Rattle.text.specs.Scanned.{nowhere, nextOf, nextAt, scannedAt, signedAt}
@@ -61,7 +61,7 @@ is-none false this that = refl
 pub row-is : (cs : List Column) (line : List ℕ) → length line ≤ longestLine → wellFormed cs line ≡ keep cs (fields line)
 unfolding wellFormed faultOf
 row-is cs line h =
-    rw (le-ltb longestLine (length line) h, is-none (not (eqb (length (fields line)) (length cs))) Miscounted (firstBroken 1 cs (fields line)))
+    rw (le-ltb longestLine (length line) h, is-none (not (eqb (length (fields line)) (length cs))) WrongCount (firstBroken 1 cs (fields line)))
     (sym (kept-none 1 cs (fields line)))
 
 pub too-long : (cs : List Column) (line : List ℕ) → longestLine < length line → wellFormed cs line ≡ false

@@ -13,7 +13,7 @@ use Rattle.whole.specs.Text.{ascii, nameOf}
 use Rattle.text.specs.declared.columns.Holds.{Holds}
 use Rattle.text.specs.declared.columns.Holds.the-variants.{Id, Name, Letter, Natural, Signed}
 use Rattle.text.specs.declared.columns.Fault.{Fault}
-use Rattle.text.specs.declared.columns.Fault.the-variants.{TooLong, Miscounted, Broken}
+use Rattle.text.specs.declared.columns.Fault.the-variants.{TooLong, WrongCount, Broken}
 use Rattle.text.specs.Fields.{fields, sized, every, digit, capital, small, letter}
 use Rattle.text.specs.Joined.{joined}
 use Rattle.text.specs.Numbers.{isNumber, isSigned, valueOf, signedOf}
@@ -84,7 +84,7 @@ firstBroken n (c ∷ cs) (f ∷ fs) = if rule c f then firstBroken (n + 1) cs fs
 unfoldable pub faultOf : List Column → List ℕ → Option Fault
 faultOf columns line =
     if ltb longestLine (length line) then some TooLong
-    else if not (eqb (length (fields line)) (length columns)) then some Miscounted
+    else if not (eqb (length (fields line)) (length columns)) then some WrongCount
     else firstBroken 1 columns (fields line)
 
 abbrev pub isNone : Option Fault → Bool

@@ -6,8 +6,9 @@ use mathlib.Core.Option.{some}
 use Prim.Native.Nat.{ℕ, _-_, _^_, _<_, _≤_}
 use lib.ListN.{length}
 use lib.IntN.{ℤ, natAbs}
+use Rattle.text.specs.Fields.{fields}
 use Rattle.text.specs.declared.columns.Fault.the-variants.{Broken}
-use Rattle.text.specs.Columns.{Column, columnAt, rule, fieldAt, faultOf}
+use Rattle.text.specs.Columns.{Column, columnAt, longestLine, rule, fieldAt, faultOf}
 use Rattle.text.specs.Numbers.{isNumber, valueOf, isSigned, signedOf}
 use Rattle.text.specs.Decimal.{decimal, signedDecimal}
 
@@ -25,8 +26,10 @@ NumberWrittenBack = (most : ℕ) (s : List ℕ) → isNumber most s ≡ true →
 abbrev pub SignedWrittenBack : Type 0
 SignedWrittenBack = (most : ℕ) (s : List ℕ) → isSigned most s ≡ true → signedDecimal (signedOf s) ≡ s
 
--- The field with this number, counted from 1, breaks its rule, and none left of it does.
+-- The line is short enough and has a field for each column; that with this number, counted from 1, breaks its rule, and none left of it does.
 pub record FirstToBreak (columns : List Column) (line : List ℕ) (number : ℕ) : Type 0 where
+  pub short : length line ≤ longestLine
+  pub counted : length (fields line) ≡ length columns
   pub from-one : 1 ≤ number
   pub to-last : number ≤ length columns
   pub breaks : rule (columnAt (number - 1) columns) (fieldAt (number - 1) line) ≡ false

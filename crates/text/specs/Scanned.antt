@@ -15,7 +15,7 @@ use Rattle.text.specs.Fields.{field}
 use Rattle.text.specs.declared.columns.Holds.{Holds}
 use Rattle.text.specs.declared.columns.Holds.the-variants as holds
 use Rattle.text.specs.declared.columns.Fault.{Fault}
-use Rattle.text.specs.declared.columns.Fault.the-variants.{TooLong, Miscounted, Broken}
+use Rattle.text.specs.declared.columns.Fault.the-variants.{TooLong, WrongCount, Broken}
 use Rattle.text.specs.Numbers.{mostDigits, isSigned, signedOf}
 use Rattle.text.specs.Columns.{longestLine, ruleOf}
 
@@ -68,18 +68,18 @@ abbrev pub commasIn : List ℕ → ℕ
 commasIn [] = 0
 commasIn (b ∷ s) = if eqb b (code ",") then suc (commasIn s) else commasIn s
 
--- The number of the first field after which none starts, that at the offset being number n; one past the last where there is no such field.
+-- The number of the first field that breaks its rule, that at the offset being number n; one past the last where each keeps its rule.
 abbrev pub firstLost : List ℕ → ℕ → List Holds → ℕ → ℕ
 firstLost line n [] from = n
 firstLost line n (what ∷ others) from =
     let next = nextAt (ruleOf what) line from in
     if leb next (length line + 1) then firstLost line (n + 1) others next else n
 
--- The fault of a line that is no row of columns that hold these.
+-- The fault of a line that is no row of columns that hold these. Of a row it would be a field past the last.
 abbrev pub faultFound : List Holds → List ℕ → Fault
 faultFound held line =
     if ltb longestLine (length line) then TooLong
-    else if not (eqb (commasIn line + 1) (length held)) then Miscounted
+    else if not (eqb (commasIn line + 1) (length held)) then WrongCount
     else Broken (firstLost line 1 held 0)
 
 -- A column's numbers fit 64 bits.

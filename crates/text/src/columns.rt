@@ -16,7 +16,7 @@ use crate::number::signed_at;
 // The most columns that a list has.
 pub const MOST_COLUMNS: usize = 16;
 
-// An id, a name, a letter, a number from 0 up or a number of either sign, each of at most so many digits.
+// An id, a name, a letter, a number from 0 up or a number of either sign, these two of at most so many digits.
 pub enum Holds {
     Id,
     Name,
@@ -28,12 +28,11 @@ pub enum Holds {
 // The line is too long, it has not as many fields as there are columns, or the field with this number, counted from 1, breaks its rule.
 pub enum Fault {
     TooLong,
-    Miscounted,
+    WrongCount,
     Broken(usize),
 }
 
-fn commas_in(line: &[u8]) -> usize
-    requires { ⌜ length (now line) ≤ longestLine ⌝ }
+pub fn commas_in(line: &[u8]) -> usize
     ensures { λ r. ⌜ r ≡ commasIn (now (line .entry)) ⌝ }
 {
     let mut commas = 0;
@@ -79,16 +78,18 @@ fn first_broken(line: &[u8], columns: [Holds; MOST_COLUMNS], count: usize) -> us
     kept + 1
 }
 
-// Why a line is no row of the first `count` columns.
+// Why a line is no row of the first `count` columns; it is for lines that are none.
 pub fn fault_in(line: &[u8], columns: [Holds; MOST_COLUMNS], count: usize) -> Fault
     requires { ⌜ (count ≤ length columns) × (every isNarrow columns ≡ true) ⌝ }
     ensures { λ r. ⌜ r ≡ faultFound (take count columns) (now (line .entry)) ⌝ }
 {
-    if LONGEST_LINE < line.len() {
+    let long = LONGEST_LINE < line.len();
+    let wrong_count = commas_in(line) + 1 != count;
+    if long {
         return Fault::TooLong;
     }
-    if commas_in(line) + 1 != count {
-        return Fault::Miscounted;
+    if wrong_count {
+        return Fault::WrongCount;
     }
     Fault::Broken(first_broken(line, columns, count))
 }

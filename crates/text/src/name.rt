@@ -9,9 +9,9 @@ ghost use Rattle.text.specs.Scanned.{closesAt, nextIf, nextOf, nextAt, s
 use crate::field;
 use crate::field::Scanned;
 
-const LONGEST_ID: usize = 16;
+pub const LONGEST_ID: usize = 16;
 
-const LONGEST_NAME: usize = 8;
+pub const LONGEST_NAME: usize = 8;
 
 fn id_byte(b: u8) -> bool
     ensures { λ r. ⌜ r ≡ idByte b ⌝ }

@@ -11,6 +11,9 @@ ghost use Rattle.text.specs.Scanned.{scannedIn, scannedAt, signedIf, sig
 use crate::field;
 use crate::field::Scanned;
 
+// So many digits a number has in any column, and fits 64 bits with a sign.
+const MOST_DIGITS: usize = 18;
+
 // What a field that may have a minus says, 0 where it breaks its rule, and where the next field starts.
 pub struct Signed {
     pub value: i64,
@@ -48,15 +51,27 @@ fn number_to(s: &[u8], end: usize) -> Scanned
     field::ended(s, i, value)
 }
 
-// Where the bytes suffice, only the digits are counted: for a `most` that is a constant the compiler writes the turns out, with no test of an end.
+// Where the bytes suffice, only the digits are counted: the most of them being a constant, the compiler writes the turns out, with no test of an end.
+fn number_of(s: &[u8]) -> Scanned
+    requires { ⌜ length (now s) ≤ longestLine ⌝ }
+    ensures { λ r. ⌜ r ≡ scannedIn (isNumber mostDigits) valueOf (now (s .entry)) ⌝ }
+{
+    if MOST_DIGITS < s.len() {
+        return number_to(s, MOST_DIGITS);
+    }
+    number_to(s, s.len())
+}
+
+// The number in the first field, of at most so many digits.
 fn number_in(s: &[u8], most: usize) -> Scanned
     requires { ⌜ (length (now s) ≤ longestLine) × (most ≤ mostDigits) ⌝ }
     ensures { λ r. ⌜ r ≡ scannedIn (isNumber most) valueOf (now (s .entry)) ⌝ }
 {
-    if most < s.len() {
-        return number_to(s, most);
+    let n = number_of(s);
+    if most + 1 < n.next {
+        return field::broken(s);
     }
-    number_to(s, s.len())
+    n
 }
 
 fn no_signed(s: &[u8]) -> Signed

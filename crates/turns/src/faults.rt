@@ -1,5 +1,9 @@
-// What is said of a line that is no row: it is too long, how many fields it has, or which field breaks its rule and why.
+// Whether a line is no row, and what is then said of it: it is too long, how many fields it has, or which field breaks its rule and why.
+ghost use mathlib.Core.Path.{_≡_};
+ghost use mathlib.Core.Bool.{true};
 ghost use Prim.Native.Nat.{_≤_};
+ghost use Rattle.whole.specs.Any.{every};
+ghost use Rattle.text.specs.Scanned.{isNarrow};
 use crate::fields::field_end;
 use crate::fields::field_start;
 use crate::fields::fields_in;
@@ -7,14 +11,23 @@ use crate::header::header_of;
 use crate::kept::MOST_KEPT;
 use crate::people::say;
 use crate::people::say_count;
-use crate::reasons::say_reason;
+use crate::reasons::say_why;
 use list::Kind;
+use row::FORWARD_COLUMNS;
+use row::READING_COLUMNS;
+use row::RECORD_COLUMNS;
+use row::RESISTANCES_COLUMNS;
+use row::TOLERANCE_COLUMNS;
 use text::Fault;
 use text::Holds;
 use text::LONGEST_LINE;
 use text::MOST_COLUMNS;
+use text::fault_in;
 
-fn columns_of(kind: Kind) -> [Holds; MOST_COLUMNS] {
+// What the columns of a kind hold, and how many there are.
+fn columns_of(kind: Kind) -> [Holds; MOST_COLUMNS]
+    ensures { λ r. ⌜ every isNarrow r ≡ true ⌝ }
+{
     match kind {
         Kind::Readings => row::reading_columns(),
         Kind::Records => row::record_columns(),
@@ -24,6 +37,42 @@ fn columns_of(kind: Kind) -> [Holds; MOST_COLUMNS] {
     }
 }
 
+fn count_of(kind: Kind) -> usize
+    ensures { λ r. ⌜ r ≤ 16 ⌝ }
+{
+    match kind {
+        Kind::Readings => READING_COLUMNS,
+        Kind::Records => RECORD_COLUMNS,
+        Kind::Resistances => RESISTANCES_COLUMNS,
+        Kind::Steps => FORWARD_COLUMNS,
+        Kind::Tolerances => TOLERANCE_COLUMNS,
+    }
+}
+
+// Why a line is no row, if it is none.
+pub enum Faulty {
+    By(Fault),
+    No,
+}
+
+// A line that is a row is given a field past the last.
+fn is_past(fault: Fault, count: usize) -> bool {
+    match fault {
+        Fault::Broken(number) => number > count,
+        _ => false,
+    }
+}
+
+pub fn fault_on(kind: Kind, line: &[u8]) -> Faulty {
+    let count = count_of(kind);
+    let fault = fault_in(line, columns_of(kind), count);
+    if is_past(fault, count) {
+        return Faulty::No;
+    }
+    Faulty::By(fault)
+}
+
+// How many titles a header has, and one of them.
 fn titles_in(bytes: [u8; MOST_KEPT], count: usize) -> u64
     requires { ⌜ count ≤ 128 ⌝ }
 {
@@ -55,7 +104,7 @@ fn say_too_long() -> bool {
     say(b"it has more than ") & say_count(LONGEST_LINE as u64) & say(b" bytes\n")
 }
 
-fn say_miscounted(fields: u64, titles: u64) -> bool {
+fn say_wrong_count(fields: u64, titles: u64) -> bool {
     let counted = say(b"it has ") & say_count(fields);
     if fields == 1 {
         return counted & say(b" field, and the header has ") & say_count(titles) & say(b"\n");
@@ -71,6 +120,7 @@ fn say_broken(kind: Kind, line: &[u8], number: usize) -> bool {
         & say(b", ")
         & say_title(kind, number)
         & say(b": ");
+    // A fault names a column, so neither is ever so.
     if number == 0 {
         return said;
     }
@@ -78,13 +128,13 @@ fn say_broken(kind: Kind, line: &[u8], number: usize) -> bool {
         return said;
     }
     let columns = columns_of(kind);
-    said & say_reason(columns[number - 1], &line[from..end])
+    said & say_why(columns[number - 1], &line[from..end])
 }
 
 pub fn say_fault(kind: Kind, line: &[u8], fault: Fault) -> bool {
     match fault {
         Fault::TooLong => say_too_long(),
-        Fault::Miscounted => say_miscounted(fields_in(line), titles_of(kind)),
+        Fault::WrongCount => say_wrong_count(fields_in(line), titles_of(kind)),
         Fault::Broken(number) => say_broken(kind, line, number),
     }
 }

@@ -1,17 +1,10 @@
 // The fields of a line, counted from 1.
 ghost use Prim.Native.Nat.{_≤_};
 ghost use lib.ListN.{length};
+use text::commas_in;
 
 pub fn fields_in(line: &[u8]) -> u64 {
-    let mut fields = 1;
-    let mut i = 0;
-    while i < line.len() {
-        if line[i] == b',' {
-            fields = std::num::wrapping_add_u64(fields, 1);
-        }
-        i += 1;
-    }
-    fields
+    std::num::wrapping_add_u64(commas_in(line) as u64, 1)
 }
 
 // Where the field that starts at an offset ends.
@@ -34,14 +27,14 @@ pub fn field_start(line: &[u8], number: usize) -> usize
     ensures { λ r. ⌜ r ≤ length (now (line .entry)) ⌝ }
 {
     let mut from = 0;
-    let mut before = 1;
-    while before < number {
+    let mut field = 1;
+    while field < number {
         let end = field_end(line, from);
         if end == line.len() {
             return end;
         }
         from = end + 1;
-        before += 1;
+        field += 1;
     }
     from
 }

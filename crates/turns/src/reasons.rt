@@ -4,10 +4,9 @@ ghost use lib.ListN.{length};
 use crate::people::say;
 use crate::people::say_count;
 use text::Holds;
-
-fn between(b: u8, least: u8, most: u8) -> bool {
-    least <= b && b <= most
-}
+use text::LONGEST_ID;
+use text::LONGEST_NAME;
+use text::between;
 
 fn is_letter(b: u8) -> bool {
     between(b, b'A', b'Z') | between(b, b'a', b'z')
@@ -42,7 +41,7 @@ fn first_other(held: Holds, field: &[u8]) -> usize
     i
 }
 
-fn say_letter_or_digit(b: u8) -> bool {
+fn say_other_byte(b: u8) -> bool {
     if is_digit(b) {
         return say(b"a digit\n");
     }
@@ -69,8 +68,12 @@ fn say_byte(b: u8) -> bool {
         b'_' => say(b"an underscore\n"),
         b'\t' => say(b"a tab\n"),
         b'\r' => say(b"a CR\n"),
-        _ => say_letter_or_digit(b),
+        _ => say_other_byte(b),
     }
+}
+
+fn say_more_than(most: usize, what: &[u8]) -> bool {
+    say(b"more than ") & say_count(most as u64) & say(what)
 }
 
 // Of digits alone that are no number of at most so many: what is left is a 0 after a minus.
@@ -81,27 +84,29 @@ fn say_of_digits(digits: &[u8], most: usize) -> bool {
         }
     }
     if digits.len() > most {
-        return say(b"more than ") & say_count(most as u64) & say(b" digits\n");
+        return say_more_than(most, b" digits\n");
     }
     say(b"a minus before 0\n")
 }
 
-fn say_of_bytes(held: Holds, field: &[u8]) -> bool {
+// Of a field of bytes that may all stand in it.
+fn say_of_size(held: Holds, field: &[u8]) -> bool {
     match held {
-        Holds::Id => say(b"more than 16 bytes\n"),
-        Holds::Name => say(b"more than 8 letters\n"),
+        Holds::Id => say_more_than(LONGEST_ID, b" bytes\n"),
+        Holds::Name => say_more_than(LONGEST_NAME, b" letters\n"),
         Holds::Letter => say(b"more than one letter\n"),
         Holds::Natural(most) => say_of_digits(field, most),
         Holds::Signed(most) => say_of_digits(field, most),
     }
 }
 
-fn say_of_rest(held: Holds, field: &[u8]) -> bool {
+// Of a field that is not empty, without the minus that it may have.
+fn say_of_content(held: Holds, field: &[u8]) -> bool {
     let i = first_other(held, field);
     if i < field.len() {
         return say_byte(field[i]);
     }
-    say_of_bytes(held, field)
+    say_of_size(held, field)
 }
 
 fn takes_minus(held: Holds) -> bool {
@@ -112,7 +117,7 @@ fn takes_minus(held: Holds) -> bool {
 }
 
 // Says why a field that breaks its rule does.
-pub fn say_reason(held: Holds, field: &[u8]) -> bool {
+pub fn say_why(held: Holds, field: &[u8]) -> bool {
     if field.len() == 0 {
         return say(b"it is empty\n");
     }
@@ -121,8 +126,8 @@ pub fn say_reason(held: Holds, field: &[u8]) -> bool {
             if field.len() == 1 {
                 return say(b"a minus alone\n");
             }
-            return say_of_rest(held, &field[1..]);
+            return say_of_content(held, &field[1..]);
         }
     }
-    say_of_rest(held, field)
+    say_of_content(held, field)
 }

@@ -1,15 +1,14 @@
 // What is to be said of a line besides its answer.
+use crate::faults::Faulty;
+use crate::faults::fault_on;
 use certificate::CertificateAnswer;
 use certificate::FaultyCell;
 use law::Cell;
 use lines::MOST_HELD;
 use list::Kind;
 use quantity::Refusal;
-use row::ForwardParsed;
-use row::ReadingParsed;
 use row::RecordParsed;
 use row::ResistancesParsed;
-use row::ToleranceParsed;
 use text::Fault;
 
 // So many first bytes of a line are looked at: all that is held of a long one but its last.
@@ -70,24 +69,11 @@ fn of_record(answer: CertificateAnswer, faulty: FaultyCell) -> Remark {
     }
 }
 
-fn of_reading(line: &[u8]) -> Remark {
-    match row::parse_reading(line) {
-        ReadingParsed::Row(_) => Remark::Nothing,
-        ReadingParsed::NoRow(fault) => Remark::NoRow(fault),
-    }
-}
-
-fn of_step(line: &[u8]) -> Remark {
-    match row::parse_forward(line) {
-        ForwardParsed::Row(_) => Remark::Nothing,
-        ForwardParsed::NoRow(fault) => Remark::NoRow(fault),
-    }
-}
-
-fn of_tolerance(line: &[u8]) -> Remark {
-    match row::parse_tolerance(line) {
-        ToleranceParsed::Row(_) => Remark::Nothing,
-        ToleranceParsed::NoRow(fault) => Remark::NoRow(fault),
+// A line of which nothing is said but why it is no row. The parser of readings is left to the answers: what is called once, the compiler builds in.
+fn of_other(kind: Kind, line: &[u8]) -> Remark {
+    match fault_on(kind, line) {
+        Faulty::By(fault) => Remark::NoRow(fault),
+        Faulty::No => Remark::Nothing,
     }
 }
 
@@ -117,10 +103,10 @@ pub fn remark_on(kind: Kind, line: &[u8]) -> Remark {
         return Remark::LoneFeed;
     }
     match kind {
-        Kind::Readings => of_reading(line),
+        Kind::Readings => of_other(kind, line),
         Kind::Records => of_ratios(line),
         Kind::Resistances => of_resistances(line),
-        Kind::Steps => of_step(line),
-        Kind::Tolerances => of_tolerance(line),
+        Kind::Steps => of_other(kind, line),
+        Kind::Tolerances => of_other(kind, line),
     }
 }

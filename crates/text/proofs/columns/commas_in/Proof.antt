@@ -27,8 +27,9 @@ shared-slice-read-if1 c = search needs
 add-commas : tie.Need-add-commas Inv-loop μ-loop
 add-commas c =
     let at = c .before .before .before in
-    let rest = drop (at .loop .i) (at .before .args .line .now) in
-    omega (arith, at .loop .inv .1, commas-few rest, length-drop (at .loop .i) (at .before .args .line .now), at .before .pre)
+    let line = at .before .args .line .now in
+    let counted : at .loop .commas ≤ length line = omega (arith, at .loop .inv .1, commas-few (drop (at .loop .i) line), length-drop (at .loop .i) line) in
+    search (needs, counted)
 
 loop-less : tie.Need-loop-less Inv-loop μ-loop
 loop-less c = search needs

@@ -23,8 +23,8 @@ returns c = search needs
 add-from : tie.Need-add-from Inv-loop μ-loop
 add-from c = search needs
 
-add-before : tie.Need-add-before Inv-loop μ-loop
-add-before c = search needs
+add-field : tie.Need-add-field Inv-loop μ-loop
+add-field c = search needs
 
 loop-less : tie.Need-loop-less Inv-loop μ-loop
 loop-less c = search needs
@@ -45,7 +45,7 @@ field-start-spec =
     field-end-requires
     returns
     add-from
-    add-before
+    add-field
     loop-less
     loop-again
     returns-2)
