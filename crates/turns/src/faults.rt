@@ -72,19 +72,6 @@ pub fn fault_on(kind: Kind, line: &[u8]) -> Faulty {
     Faulty::By(fault)
 }
 
-// How many titles a header has, and one of them.
-fn titles_in(bytes: [u8; MOST_KEPT], count: usize) -> u64
-    requires { ⌜ count ≤ 128 ⌝ }
-{
-    fields_in(&bytes[..count])
-}
-
-fn titles_of(kind: Kind) -> u64 {
-    let header = header_of(kind);
-    let bytes = header.bytes;
-    titles_in(bytes, header.length())
-}
-
 fn say_title_in(bytes: [u8; MOST_KEPT], count: usize, number: usize) -> bool
     requires { ⌜ count ≤ 128 ⌝ }
 {
@@ -104,12 +91,12 @@ fn say_too_long() -> bool {
     say(b"it has more than ") & say_count(LONGEST_LINE as u64) & say(b" bytes\n")
 }
 
-fn say_wrong_count(fields: u64, titles: u64) -> bool {
+fn say_wrong_count(fields: u64, columns: u64) -> bool {
     let counted = say(b"it has ") & say_count(fields);
     if fields == 1 {
-        return counted & say(b" field, and the header has ") & say_count(titles) & say(b"\n");
+        return counted & say(b" field, and the header has ") & say_count(columns) & say(b"\n");
     }
-    counted & say(b" fields, and the header has ") & say_count(titles) & say(b"\n")
+    counted & say(b" fields, and the header has ") & say_count(columns) & say(b"\n")
 }
 
 fn say_broken(kind: Kind, line: &[u8], number: usize) -> bool {
@@ -134,7 +121,7 @@ fn say_broken(kind: Kind, line: &[u8], number: usize) -> bool {
 pub fn say_fault(kind: Kind, line: &[u8], fault: Fault) -> bool {
     match fault {
         Fault::TooLong => say_too_long(),
-        Fault::WrongCount => say_wrong_count(fields_in(line), titles_of(kind)),
+        Fault::WrongCount => say_wrong_count(fields_in(line), count_of(kind) as u64),
         Fault::Broken(number) => say_broken(kind, line, number),
     }
 }
