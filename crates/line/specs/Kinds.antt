@@ -66,7 +66,8 @@ refusalOf (Broken number) = FieldBroken
 abbrev pub isFault : ℕ → Bool
 isFault number = eqb number (numberOf LineTooLong) || eqb number (numberOf WrongFieldCount) || eqb number (numberOf FieldBroken)
 
--- The own columns of a faulty line, of which every kind has one at least. 14 is the one refusal that carries a number: that of the field, in the first of them. Every other leaves them all empty.
+-- The own columns of a faulty line, of which every kind has one at least. 14 is the one refusal that carries a number: that of the field, in the first of them.
+-- Every other leaves them all empty.
 abbrev pub faultColumns : List String → Fault → List (List ℕ)
 faultColumns titles TooLong = blanks titles
 faultColumns titles WrongCount = blanks titles
