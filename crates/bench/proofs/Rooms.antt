@@ -1,4 +1,4 @@
--- So many bytes hold each answer of the bench's lists, its number is one of its own, 14 alone carries a number, and the three faults were 10.
+-- The lines of each of the bench's lists are answered as promised: once, in so many bytes, by a number of their own.
 use mathlib.Core.Path.{_≡_, refl, sym}
 use mathlib.Core.Bool.{Bool, true, false}
 use mathlib.Core.List.{List, _++_}
@@ -43,8 +43,8 @@ use Rattle.row.specs.Places.{givenAt}
 use Rattle.row.specs.Records.{recordFrom}
 use Rattle.row.specs.Resistances.{resistancesFrom}
 use Rattle.line.specs.Writing.{commaed}
-use Rattle.line.specs.Promised.{AnswersFit, NumbersOfLines, OthersBlank, FieldNamed, WereTens, HadAnswer}
-use Rattle.line.proofs.Unique.{Small, answers-fit, numbers-of-lines, others-blank, field-named, were-tens, had-answer}
+use Rattle.line.specs.Promised.{LinesKept}
+use Rattle.line.proofs.Unique.{Small, lines-kept}
 use Rattle.line.proofs.Short.{names-short, name-short, letter-short, signed-few, small-row}
 use Rattle.bench.specs.Certificates.{placesWritten, records, resistances}
 use Rattle.bench.specs.Forward.{steps}
@@ -81,23 +81,8 @@ small-record row =
     let cells = recordFrom row in
     small-row records placesBytes noPlaces (subrangeNamed (cells .subrange .0)) (λ s. recordOf s cells) (λ s. refl) (omega arith) (λ s n a. places-short s cells a)
 
-pub records-numbers : NumbersOfLines records
-records-numbers = numbers-of-lines records placesBytes small-record
-
-pub records-fit : AnswersFit records certificateRoom
-records-fit = answers-fit records placesBytes small-record (names-short _ name-short _ _ _ _) (omega arith) (omega arith)
-
-pub records-blank : OthersBlank records
-records-blank = others-blank records placesBytes small-record
-
-pub records-field : FieldNamed records
-records-field = field-named records placesBytes small-record
-
-pub records-were-tens : WereTens records
-records-were-tens = were-tens records placesBytes small-record record-row
-
-pub records-had-answer : HadAnswer records
-records-had-answer = had-answer records placesBytes small-record
+pub records-kept : LinesKept records certificateRoom
+records-kept = lines-kept records placesBytes record-row small-record (names-short _ name-short _ _ _ _) (omega arith) (omega arith)
 
 small-resistances : (row : List Value) (o : Outcome LawAndPlaces) → Follows (resistances .rule row) o → Small resistances placesBytes o
 small-resistances row =
@@ -105,23 +90,8 @@ small-resistances row =
     small-row resistances placesBytes noPlaces (subrangeNamed (cells .subrange .0)) (λ s. resistancesOf s cells) (λ s. refl) (omega arith)
     (λ s n a e. places-short s (ratiosOf cells) a (passed (outside cells) 1 (recordOf s (ratiosOf cells) .tests) (omega arith) e .1))
 
-pub resistances-numbers : NumbersOfLines resistances
-resistances-numbers = numbers-of-lines resistances placesBytes small-resistances
-
-pub resistances-fit : AnswersFit resistances certificateRoom
-resistances-fit = answers-fit resistances placesBytes small-resistances (names-short _ name-short _ _ _ _) (omega arith) (omega arith)
-
-pub resistances-blank : OthersBlank resistances
-resistances-blank = others-blank resistances placesBytes small-resistances
-
-pub resistances-field : FieldNamed resistances
-resistances-field = field-named resistances placesBytes small-resistances
-
-pub resistances-were-tens : WereTens resistances
-resistances-were-tens = were-tens resistances placesBytes small-resistances resistances-row
-
-pub resistances-had-answer : HadAnswer resistances
-resistances-had-answer = had-answer resistances placesBytes small-resistances
+pub resistances-kept : LinesKept resistances certificateRoom
+resistances-kept = lines-kept resistances placesBytes resistances-row small-resistances (names-short _ name-short _ _ _ _) (omega arith) (omega arith)
 
 -- ---- steps taken forward
 ratio-short : (given : Given) (step : ℤ) (law : Law) (a : LawAndRatio) → numberGiven (forwardCertificate (certificateOf law given) step .tests) ≡ 0
@@ -137,23 +107,8 @@ small-step row =
     small-row steps ratioBytes noRatio (lawNamed (given .law .0)) (λ law. forwardCertificate (certificateOf law given) (integerAt 2 row)) (λ law. refl) (omega arith)
     (λ law n. ratio-short given (integerAt 2 row) law)
 
-pub steps-numbers : NumbersOfLines steps
-steps-numbers = numbers-of-lines steps ratioBytes small-step
-
-pub steps-fit : AnswersFit steps ratioRoom
-steps-fit = answers-fit steps ratioBytes small-step (names-short _ name-short _ _ _ _) (omega arith) (omega arith)
-
-pub steps-blank : OthersBlank steps
-steps-blank = others-blank steps ratioBytes small-step
-
-pub steps-field : FieldNamed steps
-steps-field = field-named steps ratioBytes small-step
-
-pub steps-were-tens : WereTens steps
-steps-were-tens = were-tens steps ratioBytes small-step step-row
-
-pub steps-had-answer : HadAnswer steps
-steps-had-answer = had-answer steps ratioBytes small-step
+pub steps-kept : LinesKept steps ratioRoom
+steps-kept = lines-kept steps ratioBytes step-row small-step (names-short _ name-short _ _ _ _) (omega arith) (omega arith)
 
 -- ---- tolerance tests
 -- no class goes past the curve
@@ -187,20 +142,5 @@ small-test row =
     small-row tolerances resultBytes noResult (classNamed letter) (λ class. testByClass class (integerAt 2 row) (countAt 3 row) (countAt 4 row)) (λ class. refl) (omega arith)
     (λ class n. result-short (integerAt 2 row) (countAt 3 row) (countAt 4 row) class (class-top letter class n))
 
-pub results-numbers : NumbersOfLines tolerances
-results-numbers = numbers-of-lines tolerances resultBytes small-test
-
-pub results-fit : AnswersFit tolerances resultRoom
-results-fit = answers-fit tolerances resultBytes small-test (names-short _ letter-short _ _ _ _) (omega arith) (omega arith)
-
-pub results-blank : OthersBlank tolerances
-results-blank = others-blank tolerances resultBytes small-test
-
-pub results-field : FieldNamed tolerances
-results-field = field-named tolerances resultBytes small-test
-
-pub results-were-tens : WereTens tolerances
-results-were-tens = were-tens tolerances resultBytes small-test test-row
-
-pub results-had-answer : HadAnswer tolerances
-results-had-answer = had-answer tolerances resultBytes small-test
+pub results-kept : LinesKept tolerances resultRoom
+results-kept = lines-kept tolerances resultBytes test-row small-test (names-short _ letter-short _ _ _ _) (omega arith) (omega arith)

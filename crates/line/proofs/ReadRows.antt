@@ -24,19 +24,12 @@ use Rattle.text.specs.Columns.{Value, wellFormed, fieldAt, countAt}
 use Rattle.row.specs.Places.{givenAt}
 use Rattle.row.specs.Readings.{columns}
 use Rattle.line.specs.Readings.{readings, readingRoom}
-use Rattle.line.specs.Promised.{OneAnswer, OneAnswerInto, AnswersFit, NumbersOfLines, OthersBlank, FieldNamed, WereTens, HadAnswer}
-use Rattle.line.proofs.Unique as unique
-use Rattle.line.proofs.Unique.{Small}
+use Rattle.line.specs.Promised.{LinesKept}
+use Rattle.line.proofs.Unique.{Small, lines-kept}
 use Rattle.line.proofs.Short.{names-short, name-short, signed-few, small-row}
 
 one : (row : List Value) (o o′ : Outcome LawAndStep) → Follows (readings .rule row) o → Follows (readings .rule row) o′ → o ≡ o′
 one row = read-unique (givenAt 4 row) (countAt 2 row) (countAt 3 row)
-
-pub one-reading : OneAnswer readings
-one-reading = unique.one-answer readings one
-
-pub one-reading-into : OneAnswerInto readings
-one-reading-into = unique.one-answer-into readings one
 
 -- ---- how many bytes an answer has
 -- the steps of every law
@@ -60,21 +53,5 @@ small-reading row =
 short : (line : List ℕ) → wellFormed columns line ≡ true → length (fieldAt 0 line) + length (fieldAt 1 line) ≤ 24
 short line w = names-short _ name-short _ _ _ _ line w
 
-pub readings-numbers : NumbersOfLines readings
-readings-numbers = unique.numbers-of-lines readings 9 small-reading
-
-pub readings-fit : AnswersFit readings readingRoom
-readings-fit = unique.answers-fit readings 9 small-reading short (omega arith) (omega arith)
-
--- ---- what a refusal carries, and what it was
-pub readings-blank : OthersBlank readings
-readings-blank = unique.others-blank readings 9 small-reading
-
-pub readings-field : FieldNamed readings
-readings-field = unique.field-named readings 9 small-reading
-
-pub readings-were-tens : WereTens readings
-readings-were-tens = unique.were-tens readings 9 small-reading one
-
-pub readings-had-answer : HadAnswer readings
-readings-had-answer = unique.had-answer readings 9 small-reading
+pub readings-kept : LinesKept readings readingRoom
+readings-kept = lines-kept readings 9 one small-reading short (omega arith) (omega arith)

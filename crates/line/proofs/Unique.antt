@@ -26,7 +26,7 @@ use Rattle.line.specs.declared.lent.LineAnswer.{LineAnswer}
 use Rattle.line.specs.Kinds.{Kind, lineEnd, RowAnswered, AnsweredBy, answerLine, blanks, ownColumns, refusalOf, isFault, faultColumns, namelessLine}
 use Rattle.line.specs.Writing.{commaed}
 use Rattle.line.specs.Lent.{Placed}
-use Rattle.line.specs.Promised.{OneAnswer, OneAnswerInto, AnswersFit, NumbersOfLines, OthersBlank, FieldNamed, AnsweredBefore, WereTens, HadAnswer}
+use Rattle.line.specs.Promised.{OneAnswer, OneAnswerInto, AnswersFit, NumbersOfLines, OthersBlank, FieldNamed, AnsweredBefore, WereTens, HadAnswer, LinesKept}
 use Rattle.line.proofs.Answers.{answer-text}
 
 -- ---- in a lent buffer
@@ -173,3 +173,19 @@ module _ (kind : Kind) (bytes : ℕ) (small : (row : List Value) (o : Outcome (k
         by (some fault) e h =
             let ten : (before ≡ 10) × (textBefore ≡ answerLine (ascii "?") (ascii "?") (blanks (kind .own)) 10) = rw (some-fault (kind .columns) line fault e) at k in
             (is-fault fault n (h .0) ∙ sym (eq-eqb before 10 (ten .0)), λ z. absurd (true≢false (sym (is-fault fault n (h .0)) ∙ z)))
+
+-- ---- and so all of these
+pub lines-kept : (kind : Kind) (bytes : ℕ) → ((row : List Value) (o o′ : Outcome (kind .Answer)) → Follows (kind .rule row) o → Follows (kind .rule row) o′ → o ≡ o′)
+    → ((row : List Value) (o : Outcome (kind .Answer)) → Follows (kind .rule row) o → Small kind bytes o)
+    → ((line : List ℕ) → wellFormed (kind .columns) line ≡ true → length (fieldAt 0 line) + length (fieldAt 1 line) ≤ 24)
+    → length (commaed (blanks (kind .own))) ≤ bytes → length (kind .columns) ≤ 99 → LinesKept kind (29 + bytes)
+lines-kept kind bytes one small short blank few = record {
+  one = one-answer kind one;
+  one-into = one-answer-into kind one;
+  fit = answers-fit kind bytes small short blank few;
+  numbers = numbers-of-lines kind bytes small;
+  others-blank = others-blank kind bytes small;
+  field-named = field-named kind bytes small;
+  were-tens = were-tens kind bytes small one;
+  had-answer = had-answer kind bytes small;
+}

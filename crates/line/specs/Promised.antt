@@ -60,3 +60,14 @@ WereTens kind =
 -- Nor was the old rule empty: a line that is answered now had an answer then.
 abbrev pub HadAnswer : Kind → Type 0
 HadAnswer kind = (line : List ℕ) (number : ℕ) (text : List ℕ) → Answered kind line number text → (before : ℕ) × (textBefore : List ℕ) × AnsweredBefore kind line before textBefore
+
+-- ---- all of these, of a kind of list whose answers so many bytes hold
+pub record LinesKept (kind : Kind) (room : ℕ) : Type 0 where
+  pub one : OneAnswer kind
+  pub one-into : OneAnswerInto kind
+  pub fit : AnswersFit kind room
+  pub numbers : NumbersOfLines kind
+  pub others-blank : OthersBlank kind
+  pub field-named : FieldNamed kind
+  pub were-tens : WereTens kind
+  pub had-answer : HadAnswer kind

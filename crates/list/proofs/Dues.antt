@@ -16,7 +16,7 @@ use Rattle.list.specs.declared.state.Stage.the-variants.{Header, Rows, S
 use Rattle.list.specs.Kinds.{headed, wrongHeader, room}
 use Rattle.list.specs.Feeding.{HeaderDue, Due, next, DueToAll, DueAtEnd}
 use Rattle.list.specs.Promised.{roomAt}
-use Rattle.list.proofs.OfKinds.{one-answer-of, answers-fit-of, never-short}
+use Rattle.list.proofs.OfKinds.{kept-of, never-short}
 use Rattle.list.proofs.Headers.{header-short}
 
 pub due-append : (g between later : Stage) (x y : List (List ℕ)) (ns ms t u : List ℕ) → DueToAll g x ns t between → DueToAll between y ms u later → DueToAll g (x ++ y) (ns ++ ms) (t ++ u) later
@@ -72,7 +72,7 @@ header-unique desk (some k) n n′ t t′ h i = (h .0 ∙ sym (i .0), h .1 ∙ s
 
 pub due-unique : (g : Stage) (line : List ℕ) (n n′ : ℕ) (t t′ : List ℕ) → Due g line n t → Due g line n′ t′ → (n ≡ n′) × (t ≡ t′)
 due-unique (Header desk) line n n′ t t′ h i = header-unique desk (headed desk line) n n′ t t′ h i
-due-unique (Rows k) line n n′ t t′ h i = one-answer-of k line n n′ t t′ h i
+due-unique (Rows k) line n n′ t t′ h i = kept-of k .one line n n′ t t′ h i
 due-unique Stopped line n n′ t t′ h k = (h .0 ∙ sym (k .0), h .1 ∙ sym (k .1))
 
 -- the same numbers, the same text and the same stage after them
@@ -119,7 +119,7 @@ header-small desk (some k) n t (i, j) = record { number = λ e. omega (arith, i,
 
 pub due-small : (g : Stage) (line : List ℕ) (n : ℕ) (t : List ℕ) → Due g line n t → Small (roomAt g) n t
 due-small (Header desk) line n t h = header-small desk (headed desk line) n t h
-due-small (Rows k) line n t h = record { number = never-short k line n t h; text = answers-fit-of k line n t h }
+due-small (Rows k) line n t h = record { number = never-short k line n t h; text = kept-of k .fit line n t h }
 due-small Stopped line n t h = small (λ e. omega arith) (omega arith) h
 
 pub at-end-small : (g : Stage) (line : List ℕ) (n : ℕ) (t : List ℕ) → DueAtEnd g line n t → Small (roomAt g) n t

@@ -27,14 +27,14 @@ use Rattle.list.specs.Promised.{OneList, OneFeeding, OneEnding}
 use Rattle.lines.proofs.Lines.{ended-append}
 use Rattle.lines.proofs.Capped.{capped-ends}
 use Rattle.list.proofs.Capped.{capped-front}
-use Rattle.list.proofs.OfKinds.{one-answer-of}
+use Rattle.list.proofs.OfKinds.{kept-of}
 use Rattle.list.proofs.Dues.{due-within, all-unique, at-end-unique}
 
 -- ---- lists
 rows-unique : (k : Kind) (others : List (List ℕ)) (o o′ : List ℕ) → RowsAnswered k others o → RowsAnswered k others o′ → o ≡ o′
 rows-unique k [] o o′ h i = h ∙ sym i
 rows-unique k (line ∷ others) o o′ (n, t, rest, h, more, e) (n′, t′, rest′, h′, more′, e′) =
-    e ∙ ap₂ (λ (x : List ℕ) (y : List ℕ). x ++ y) (one-answer-of k line n n′ t t′ h h′ .1) (rows-unique k others rest rest′ more more′) ∙ sym e′
+    e ∙ ap₂ (λ (x : List ℕ) (y : List ℕ). x ++ y) (kept-of k .one line n n′ t t′ h h′ .1) (rows-unique k others rest rest′ more more′) ∙ sym e′
 
 header-unique : (desk : Desk) (k : Option Kind) (others : List (List ℕ)) (o o′ : List ℕ) → HeaderAnswered desk k others o → HeaderAnswered desk k others o′ → o ≡ o′
 header-unique desk none others o o′ h i = h ∙ sym i

@@ -24,7 +24,7 @@ use Rattle.reading.specs.Reading.{readGiven}
 use Rattle.reading.proofs.Tests.{step-passes}
 use Rattle.law.specs.Names.{spelled}
 use Rattle.text.specs.Decimal.{decimal}
-use Rattle.text.specs.Columns.{wellFormed, faultOf, values}
+use Rattle.text.specs.Columns.{wellFormed, faultBy, faultOf, values}
 use Rattle.line.specs.Kinds.{Answered}
 use Rattle.line.specs.Readings.{readings}
 use Rattle.bench.specs.Certificates.{records}
@@ -72,15 +72,15 @@ digits-of-F2 : decimal 4_810_000 ≡ ascii "4810000"
 digits-of-F2 = rw (decimal-more 4_810_000 (omega arith), decimal-more 481_000 (omega arith), decimal-more 48_100 (omega arith), decimal-more 4_810 (omega arith), decimal-more 481 (omega arith), decimal-more 48 (omega arith), decimal-one 4 (omega arith))
 
 answer-F1 : Answered readings F1 0 (ascii "F1,curve,1000000,0\r\n")
-unfolding F1 wellFormed faultOf values
+unfolding F1 wellFormed faultOf faultBy values
 answer-F1 = (at Curve (pos 1_000_000), read-F1, refl, rw (digits-of-F1, decimal-one 0 (omega arith)))
 
 answer-F2 : Answered readings F2 0 (ascii "F2,ag,4810000,0\r\n")
-unfolding F2 wellFormed faultOf values
+unfolding F2 wellFormed faultOf faultBy values
 answer-F2 = (at (Scale Ag) (pos 4_810_000), read-F2, refl, rw (digits-of-F2, decimal-one 0 (omega arith)))
 
 answer-F3 : Answered readings F3 9 (ascii "F3,zn,,9\r\n")
-unfolding F3 wellFormed faultOf values
+unfolding F3 wellFormed faultOf faultBy values
 answer-F3 = (refused noStep 9, read-F3, refl, rw (decimal-one 9 (omega arith)))
 
 pub example : ListAnswered Launch
@@ -138,35 +138,35 @@ of-the-launch = refl
 -- ---- lines that are no rows
 -- an empty line has one field; 201 commas are too many bytes, whatever they say; 200 are too many fields
 pub empty-line : Answered readings [] 13 (ascii "?,?,,13\r\n")
-unfolding faultOf decimal
+unfolding faultOf faultBy decimal
 empty-line = (refl, refl)
 
 pub long-line : Answered readings (replicate 201 (code ",")) 12 (ascii "?,?,,12\r\n")
-unfolding faultOf decimal
+unfolding faultOf faultBy decimal
 long-line = (refl, refl)
 
 pub commas : Answered readings (replicate 200 (code ",")) 13 (ascii "?,?,,13\r\n")
-unfolding faultOf decimal
+unfolding faultOf faultBy decimal
 commas = (refl, refl)
 
 -- a leading zero in a; a point in r and a leading zero in a; a lone CR in the last field
 pub leading-zero : Answered readings (ascii "F1,ag,69539313500,25000000000,07,0,0,0,3376008600") 14 (ascii "?,?,5,14\r\n")
-unfolding faultOf decimal
+unfolding faultOf faultBy decimal
 leading-zero = (refl, refl)
 
 pub two-broken : Answered readings (ascii "F1,ag,69.5,25000000000,07,0,0,0,3376008600") 14 (ascii "?,?,3,14\r\n")
-unfolding faultOf decimal
+unfolding faultOf faultBy decimal
 two-broken = (refl, refl)
 
 pub lone-return : Answered readings (ascii "F1,curve,138505500000,100000000000,0,0,0,0,0\r") 14 (ascii "?,?,9,14\r\n")
-unfolding faultOf decimal
+unfolding faultOf faultBy decimal
 lone-return = (refl, refl)
 
 -- the same among records and tolerance tests
 pub of-a-record : Answered records (ascii "P1,zn,0,1118119605,x,1892645942,2568644990,0,0") 14 (ascii "?,?,5,,,,,14\r\n")
-unfolding faultOf decimal
+unfolding faultOf faultBy decimal
 of-a-record = (refl, refl)
 
 pub of-a-test : Answered tolerances (ascii "S1,A,0,0100,100000000000") 14 (ascii "?,?,4,,14\r\n")
-unfolding faultOf decimal
+unfolding faultOf faultBy decimal
 of-a-test = (refl, refl)

@@ -2,18 +2,24 @@
 use mathlib.Core.Path.{_≡_}
 use mathlib.Core.Bool.{true, false}
 use mathlib.Core.List.{List, map}
+use mathlib.Core.Option.{some}
 use Prim.Native.Nat.{ℕ, _+_, _≤_}
 use lib.ListN.{length}
-use Rattle.text.specs.Columns.{Column, held, Value, wellFormed, longestLine, values, namesLength}
-use Rattle.text.specs.Scanned.{faultFound}
+use Rattle.text.specs.declared.columns.Fault.{Fault}
+use Rattle.text.specs.Columns.{Column, held, Value, faultBy, faultOf, isNone, wellFormed, longestLine, values, namesLength}
 use Rattle.text.proofs.Rows.{Scan, scan-row, scan-values}
-use Rattle.text.proofs.Faults.{fault-is, no-fault}
+use Rattle.text.proofs.Faults.{no-fault}
 use Rattle.row.specs.Parsing.{aRow, noRow, parsedBy}
 
 -- a line that is no row, by what the columns hold
-pub not-read : {Row : Type 0} (columns : List Column) (rowOf : List ℕ → Row) (line : List ℕ) → wellFormed columns line ≡ false
-    → noRow (faultFound (map held columns) line) ≡ parsedBy columns rowOf line
-not-read columns rowOf line w = rw (fault-is columns line w)
+module _ (columns : List Column) (line : List ℕ) where
+  pub no-row : wellFormed columns line ≡ false → isNone (faultBy (map held columns) line) ≡ false
+  unfolding wellFormed faultOf
+  no-row w = w
+
+  pub not-read : {Row : Type 0} (rowOf : List ℕ → Row) (fault : Fault) → faultBy (map held columns) line ≡ some fault → noRow fault ≡ parsedBy columns rowOf line
+  unfolding faultOf
+  not-read rowOf fault e = rw e
 
 module _ {Row : Type 0} (columns : List Column) (rowFrom : ℕ → List Value → Row) (line : List ℕ) {end : ℕ} {vs : List Value} (s : Scan line columns 0 end vs) (short : length line ≤ longestLine) where
   -- one whose last field ends where the line does

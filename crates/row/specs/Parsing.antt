@@ -21,6 +21,7 @@ rowUnless (some fault) row = noRow fault
 abbrev pub parsedBy : {Row : Type 0} → List Column → (List ℕ → Row) → List ℕ → Parsing Row
 parsedBy columns rowOf line = rowUnless (faultOf columns line) (rowOf line)
 
+-- ---- what the calls that hand over the columns answer
 -- What the columns of a list hold, in as many places as the most columns take; those that are left hold an id.
 abbrev pub mostColumns : ℕ
 mostColumns = 16

@@ -1,4 +1,4 @@
--- The fault of a line that is no row, found from left to right, is the one that its columns say.
+-- The fault of a line, found from left to right, is the one that its columns say.
 use mathlib.Core.Path.{_≡_, refl, sym, ap, _∙_}
 use mathlib.Core.Bool.{Bool, true, false, true≢false, _&&_, not}
 use mathlib.Core.List.{List, [], _∷_, map}
@@ -9,7 +9,7 @@ use Prim.Native.Char.{code}
 use lib.Dec.{leb, ltb, eqb}
 use lib.ListN.{length, take, drop, getD, length-drop, drop-of-length-le}
 use lib.Seq.{drop-drop, drop-cons, getD-take, length-take-le}
-use borrow.Author.Tests.{le-leb, lt-leb, lt-ltb, ltb-false, eq-eqb, ne-eqb, eqb-true}
+use borrow.Author.Tests.{le-leb, lt-leb, lt-ltb, le-ltb, ltb-false, eq-eqb, ne-eqb, eqb-true}
 use Rattle.whole.specs.Choice.{if_then_else_}
 use Rattle.whole.specs.Any.{every}
 use Rattle.whole.proofs.Choice.{and-true}
@@ -17,10 +17,10 @@ use Rattle.text.specs.declared.columns.Holds.{Holds}
 use Rattle.text.specs.declared.columns.Fault.{Fault}
 use Rattle.text.specs.declared.columns.Fault.the-variants.{TooLong, WrongCount, Broken}
 use Rattle.text.specs.Fields.{field, later, fields}
-use Rattle.text.specs.Columns.{Column, _holds_, held, columnAt, longestLine, rule, ruleOf, firstBroken, faultOf, isNone, wellFormed}
-use Rattle.text.specs.Scanned.{nextAt, commasIn, firstLost, faultFound, isNarrow}
+use Rattle.text.specs.Columns.{Column, _holds_, held, columnAt, longestLine, rule, ruleOf, firstBroken, faultBy, faultOf, isNone, wellFormed}
+use Rattle.text.specs.Scanned.{nextAt, commasIn, firstLost, isNarrow}
 use Rattle.text.specs.Promised.{FirstToBreak, FirstNamed}
-use Rattle.text.proofs.Rows.{keep, row-is, Split, only, comma, split, keeps, breaks}
+use Rattle.text.proofs.Rows.{Split, only, comma, split, keeps, breaks}
 
 -- one field more than commas
 later-long : (s : List ℕ) → length (later s) ≡ commasIn s
@@ -50,33 +50,33 @@ module _ (line : List ℕ) (i : ℕ) (h : i < length line) where
 fields-long : (line : List ℕ) → length (fields line) ≡ commasIn line + 1
 fields-long line = omega (arith, later-long line)
 
-map-long : (cs : List Column) → length (map held cs) ≡ length cs
-map-long [] = refl
-map-long (c ∷ cs) = ap suc (map-long cs)
-
--- the fields from an offset on, as many as the columns that are left
-found : (line : List ℕ) (n : ℕ) (cs : List Column) (from : ℕ) → from ≤ length line → length (fields (drop from line)) ≡ length cs → keep cs (fields (drop from line)) ≡ false
-    → firstBroken n cs (fields (drop from line)) ≡ some (Broken (firstLost line n (map held cs) from))
-found line n [] from h l k = absurd (omega arith)
-found line n ((text holds what) ∷ cs) from h l k = by (ruleOf what (field (drop from line))) refl (split (drop from line)) k (found line (n + 1) cs)
+-- the fields from an offset on, as many as the columns that are left: the first that breaks its rule, if there is one before the end
+found : (line : List ℕ) (n : ℕ) (columns : List Holds) (from : ℕ) → from ≤ length line → length (fields (drop from line)) ≡ length columns
+    → firstBroken n columns (fields (drop from line)) ≡ (let field = firstLost line n columns from in if ltb field (n + length columns) then some (Broken field) else none)
+found line n [] from h l = absurd (omega arith)
+found line n (what ∷ others) from h l = by (ruleOf what (field (drop from line))) refl (split (drop from line)) (found line (n + 1) others)
   where
-    at-end : (cs : List Column) → length cs ≡ 0 → keep cs [] ≡ true
-    at-end [] e = refl
-    at-end (c ∷ cs) e = absurd (omega arith)
+    last : (others : List Holds) → length others ≡ 0 → (end : ℕ)
+        → firstBroken (n + 1) others [] ≡ (let field = firstLost line (n + 1) others end in if ltb field (n + suc (length others)) then some (Broken field) else none)
+    last [] e end = rw (le-ltb (n + 1) (n + 1) (omega arith))
+    last (o ∷ others) e end = absurd (omega arith)
 
-    by : (t : Bool) → ruleOf what (field (drop from line)) ≡ t → Split (drop from line) → (t && keep cs (later (drop from line))) ≡ false
-        → ((next : ℕ) → next ≤ length line → length (fields (drop next line)) ≡ length cs → keep cs (fields (drop next line)) ≡ false
-        → firstBroken (n + 1) cs (fields (drop next line)) ≡ some (Broken (firstLost line (n + 1) (map held cs) next)))
-        → (if t then firstBroken (n + 1) cs (later (drop from line)) else some (Broken n)) ≡ some (Broken (firstLost line n (what ∷ map held cs) from))
-    by false e p k again = rw (breaks line (ruleOf what) from h e, lt-leb (length line + 2) (length line + 1) (omega arith))
-    by true e (only alone all) k again =
-        absurd (true≢false (sym (at-end cs (omega (arith, ap length alone))) ∙ ap (keep cs) (sym alone) ∙ k))
-    by true e (comma rest on) k again =
+    by : (t : Bool) → ruleOf what (field (drop from line)) ≡ t → Split (drop from line)
+        → ((next : ℕ) → next ≤ length line → length (fields (drop next line)) ≡ length others
+        → firstBroken (n + 1) others (fields (drop next line)) ≡ (let field = firstLost line (n + 1) others next in if ltb field (n + 1 + length others) then some (Broken field) else none))
+        → (if t then firstBroken (n + 1) others (later (drop from line)) else some (Broken n))
+        ≡ (let field = firstLost line n (what ∷ others) from in if ltb field (n + suc (length others)) then some (Broken field) else none)
+    by false e p again = rw (breaks line (ruleOf what) from h e, lt-leb (length line + 2) (length line + 1) (omega arith), lt-ltb n (n + suc (length others)) (omega arith))
+    by true e (only alone all) again =
+        let end : nextAt (ruleOf what) line from ≡ length line + 1 = keeps line (ruleOf what) from h e ∙ rw (all, length-drop from line) (omega arith) in
+        rw (end, le-leb (length line + 1) (length line + 1) (omega arith), alone) (last others (omega (arith, ap length alone)) (length line + 1))
+    by true e (comma rest on) again =
         let next = from + (length (field (drop from line)) + 1) in
         let within : next ≤ length line = omega (arith, on, length-drop from line) in
         let are : later (drop from line) ≡ fields (drop next line) = rest ∙ ap fields (drop-drop (length (field (drop from line)) + 1) from line) in
-        rw (keeps line (ruleOf what) from h e, le-leb next (length line + 1) (omega arith), are)
-        (again next within (omega (arith, ap length are)) (ap (keep cs) (sym are) ∙ k))
+        let count : n + suc (length others) ≡ n + 1 + length others = omega arith in
+        rw (keeps line (ruleOf what) from h e, le-leb next (length line + 1) (omega arith), are, count)
+        (again next within (omega (arith, ap length are)))
 
 -- ---- one column more
 module _ (line : List ℕ) (columns : List Holds) (count kept : ℕ) (h : kept < count) (k : count ≤ length columns) (other : Holds) where
@@ -105,25 +105,30 @@ narrow-at [] n other e h = absurd (omega arith)
 narrow-at (what ∷ columns) zero other e h = and-true (isNarrow what) (every isNarrow columns) e .0
 narrow-at (what ∷ columns) (suc n) other e h = narrow-at columns n other (and-true (isNarrow what) (every isNarrow columns) e .1) (omega arith)
 
-pub fault-is : (cs : List Column) (line : List ℕ) → wellFormed cs line ≡ false → faultOf cs line ≡ some (faultFound (map held cs) line)
-unfolding faultOf
-fault-is cs line w = by (ltb longestLine (length line)) refl
-  where
-    counted : length line ≤ longestLine → (t : Bool) → eqb (length (fields line)) (length cs) ≡ t
-        → (if not t then some WrongCount else firstBroken 1 cs (fields line)) ≡ some (if not t then WrongCount else Broken (firstLost line 1 (map held cs) 0))
-    counted h true e = found line 1 cs 0 (omega arith) (eqb-true (length (fields line)) (length cs) e) (sym (row-is cs line h) ∙ w)
-    counted h false e = refl
+-- ---- the fault, by its three tests
+module _ (columns : List Holds) (line : List ℕ) where
+  pub is-long : ltb longestLine (length line) ≡ true → faultBy columns line ≡ some TooLong
+  unfolding faultBy
+  is-long e = rw e
 
-    by : (t : Bool) → ltb longestLine (length line) ≡ t
-        → (if t then some TooLong else if not (eqb (length (fields line)) (length cs)) then some WrongCount else firstBroken 1 cs (fields line))
-        ≡ some (if t then TooLong else if not (eqb (commasIn line + 1) (length (map held cs))) then WrongCount else Broken (firstLost line 1 (map held cs) 0))
-    by true e = refl
-    by false e = rw (sym (fields-long line), map-long cs) (counted (ltb-false longestLine (length line) e) (eqb (length (fields line)) (length cs)) refl)
+  module _ (short : ltb longestLine (length line) ≡ false) where
+    pub is-miscounted : not (eqb (commasIn line + 1) (length columns)) ≡ true → faultBy columns line ≡ some WrongCount
+    unfolding faultBy
+    is-miscounted e = rw (short, fields-long line, e)
+
+    pub is-found : not (eqb (commasIn line + 1) (length columns)) ≡ false
+        → faultBy columns line ≡ (let field = firstLost line 1 columns 0 in if ltb field (1 + length columns) then some (Broken field) else none)
+    unfolding faultBy
+    is-found e = rw (short, fields-long line, e) (found line 1 columns 0 (omega arith) (fields-long line ∙ counted (eqb (commasIn line + 1) (length columns)) refl e))
+      where
+        counted : (t : Bool) → eqb (commasIn line + 1) (length columns) ≡ t → not t ≡ false → commasIn line + 1 ≡ length columns
+        counted true c e = eqb-true (commasIn line + 1) (length columns) c
+        counted false c e = absurd (true≢false e)
 
 -- a line that is too long
 pub long-fault : (cs : List Column) (line : List ℕ) → longestLine < length line → faultOf cs line ≡ some TooLong
 unfolding faultOf
-long-fault cs line h = rw (lt-ltb longestLine (length line) h)
+long-fault cs line h = is-long (map held cs) line (lt-ltb longestLine (length line) h)
 
 -- a row has no fault
 pub no-fault : (cs : List Column) (line : List ℕ) → wellFormed cs line ≡ true → faultOf cs line ≡ none
@@ -160,14 +165,14 @@ record NamedAt (n m : ℕ) (cs : List Column) (fs : List (List ℕ)) : Type 0 wh
   breaks : rule (columnAt place cs) (getD fs place []) ≡ false
   before : (j : ℕ) → j < place → rule (columnAt j cs) (getD fs j []) ≡ true
 
-named-at : (n m : ℕ) (cs : List Column) (fs : List (List ℕ)) → firstBroken n cs fs ≡ some (Broken m) → NamedAt n m cs fs
+named-at : (n m : ℕ) (cs : List Column) (fs : List (List ℕ)) → firstBroken n (map held cs) fs ≡ some (Broken m) → NamedAt n m cs fs
 unfolding numberIn
 named-at n m [] fs e = absurd (Option·none-ne-some (Broken m) e)
 named-at n m (c ∷ cs) [] e = absurd (Option·none-ne-some (Broken m) e)
 named-at n m (c ∷ cs) (f ∷ fs) e = by (rule c f) refl e (named-at (n + 1) m cs fs)
   where
-    by : (t : Bool) → rule c f ≡ t → (if t then firstBroken (n + 1) cs fs else some (Broken n)) ≡ some (Broken m)
-        → (firstBroken (n + 1) cs fs ≡ some (Broken m) → NamedAt (n + 1) m cs fs) → NamedAt n m (c ∷ cs) (f ∷ fs)
+    by : (t : Bool) → rule c f ≡ t → (if t then firstBroken (n + 1) (map held cs) fs else some (Broken n)) ≡ some (Broken m)
+        → (firstBroken (n + 1) (map held cs) fs ≡ some (Broken m) → NamedAt (n + 1) m cs fs) → NamedAt n m (c ∷ cs) (f ∷ fs)
     by false r e again =
         let is : n ≡ m = ap numberIn (Option·some-injective (Broken n) (Broken m) e) in
         record { place = 0; number = omega (arith, is); within = omega arith; breaks = r; before = λ j h. absurd (omega arith) }
@@ -179,9 +184,13 @@ named-at n m (c ∷ cs) (f ∷ fs) e = by (rule c f) refl e (named-at (n + 1) m 
         earlier later zero h = r
         earlier later (suc j) h = later .before j (omega arith)
 
+map-long : (cs : List Column) → length (map held cs) ≡ length cs
+map-long [] = refl
+map-long (c ∷ cs) = ap suc (map-long cs)
+
 pub first-named : FirstNamed
-unfolding faultOf namesField
-first-named cs line m e = by (ltb longestLine (length line)) (eqb (length (fields line)) (length cs)) refl refl e
+unfolding faultOf faultBy namesField
+first-named cs line m e = by (ltb longestLine (length line)) (eqb (length (fields line)) (length (map held cs))) refl refl e
   where
     is : length line ≤ longestLine → length (fields line) ≡ length cs → NamedAt 1 m cs (fields line) → FirstToBreak cs line m
     is short counted at =
@@ -195,8 +204,8 @@ first-named cs line m e = by (ltb longestLine (length line)) (eqb (length (field
           before = λ j h. at .before j (omega (arith, h, place));
         }
 
-    by : (t u : Bool) → ltb longestLine (length line) ≡ t → eqb (length (fields line)) (length cs) ≡ u
-        → (if t then some TooLong else if not u then some WrongCount else firstBroken 1 cs (fields line)) ≡ some (Broken m) → FirstToBreak cs line m
+    by : (t u : Bool) → ltb longestLine (length line) ≡ t → eqb (length (fields line)) (length (map held cs)) ≡ u
+        → (if t then some TooLong else if not u then some WrongCount else firstBroken 1 (map held cs) (fields line)) ≡ some (Broken m) → FirstToBreak cs line m
     by true u l c e = absurd (true≢false (sym (ap namesField (Option·some-injective TooLong (Broken m) e))))
     by false false l c e = absurd (true≢false (sym (ap namesField (Option·some-injective WrongCount (Broken m) e))))
-    by false true l c e = is (ltb-false longestLine (length line) l) (eqb-true (length (fields line)) (length cs) c) (named-at 1 m cs (fields line) e)
+    by false true l c e = is (ltb-false longestLine (length line) l) (eqb-true (length (fields line)) (length (map held cs)) c ∙ map-long cs) (named-at 1 m cs (fields line) e)

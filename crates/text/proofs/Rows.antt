@@ -1,7 +1,7 @@
 -- A line read field by field: whether it is a row of its columns, and what it then says.
 use mathlib.Core.Path.{_≡_, refl, sym, ap, _∙_}
 use mathlib.Core.Bool.{Bool, true, false, false≢true, _&&_, not}
-use mathlib.Core.List.{List, [], _∷_}
+use mathlib.Core.List.{List, [], _∷_, map}
 use mathlib.Core.Option.{Option, some}
 use native.Mathlib.Omega.{arith}
 use Prim.Native.Nat.{ℕ, suc, _+_, _-_, _≤_, _<_}
@@ -23,7 +23,7 @@ use Rattle.text.specs.declared.columns.Holds.the-variants as holds
 use Rattle.text.specs.declared.columns.Fault.{Fault}
 use Rattle.text.specs.declared.columns.Fault.the-variants.{WrongCount, Broken}
 use Rattle.text.specs.Columns as columns
-use Rattle.text.specs.Columns.{Column, _holds_, isId, isName, isLetter, longestLine, rule, ruleOf, firstBroken, faultOf, isNone, wellFormed, Value, firstByte, saidBy, values}
+use Rattle.text.specs.Columns.{Column, _holds_, held, isId, isName, isLetter, longestLine, rule, ruleOf, firstBroken, faultBy, faultOf, isNone, wellFormed, Value, firstByte, saidBy, values}
 use Rattle.text.specs.Scanned.{nowhere, nextOf, nextAt, scannedAt, signedAt}
 
 -- ---- one field for each column, which keeps its rule
@@ -41,14 +41,14 @@ eqb-suc m n = by (eqb m n) refl
     by false e = ne-eqb (suc m) (suc n) (λ k. false≢true (sym e ∙ eq-eqb m n (omega arith)))
 
 -- whatever the number that the first of them has
-kept-none : (n : ℕ) (cs : List Column) (fs : List (List ℕ)) → keep cs fs ≡ (if not (eqb (length fs) (length cs)) then false else isNone (firstBroken n cs fs))
+kept-none : (n : ℕ) (cs : List Column) (fs : List (List ℕ)) → keep cs fs ≡ (if not (eqb (length fs) (length (map held cs))) then false else isNone (firstBroken n (map held cs) fs))
 kept-none n [] [] = refl
 kept-none n [] (f ∷ fs) = rw (ne-eqb (suc (length fs)) 0 (λ e. omega arith))
-kept-none n (c ∷ cs) [] = rw (ne-eqb 0 (suc (length cs)) (λ e. omega arith))
-kept-none n (c ∷ cs) (f ∷ fs) = rw (eqb-suc (length fs) (length cs)) (by (rule c f) (eqb (length fs) (length cs)) (kept-none (n + 1) cs fs))
+kept-none n (c ∷ cs) [] = rw (ne-eqb 0 (suc (length (map held cs))) (λ e. omega arith))
+kept-none n (c ∷ cs) (f ∷ fs) = rw (eqb-suc (length fs) (length (map held cs))) (by (rule c f) (eqb (length fs) (length (map held cs))) (kept-none (n + 1) cs fs))
   where
-    by : (t u : Bool) → keep cs fs ≡ (if not u then false else isNone (firstBroken (n + 1) cs fs))
-        → (t && keep cs fs) ≡ (if not u then false else isNone (if t then firstBroken (n + 1) cs fs else some (Broken n)))
+    by : (t u : Bool) → keep cs fs ≡ (if not u then false else isNone (firstBroken (n + 1) (map held cs) fs))
+        → (t && keep cs fs) ≡ (if not u then false else isNone (if t then firstBroken (n + 1) (map held cs) fs else some (Broken n)))
     by true u e = e
     by false true e = refl
     by false false e = refl
@@ -59,13 +59,13 @@ is-none false this that = refl
 
 -- a line is a row where it is short enough and each field keeps its rule
 pub row-is : (cs : List Column) (line : List ℕ) → length line ≤ longestLine → wellFormed cs line ≡ keep cs (fields line)
-unfolding wellFormed faultOf
+unfolding wellFormed faultOf faultBy
 row-is cs line h =
-    rw (le-ltb longestLine (length line) h, is-none (not (eqb (length (fields line)) (length cs))) WrongCount (firstBroken 1 cs (fields line)))
+    rw (le-ltb longestLine (length line) h, is-none (not (eqb (length (fields line)) (length (map held cs)))) WrongCount (firstBroken 1 (map held cs) (fields line)))
     (sym (kept-none 1 cs (fields line)))
 
 pub too-long : (cs : List Column) (line : List ℕ) → longestLine < length line → wellFormed cs line ≡ false
-unfolding wellFormed faultOf
+unfolding wellFormed faultOf faultBy
 too-long cs line h = rw (lt-ltb longestLine (length line) h)
 
 -- so a row is short and its fields keep their rules

@@ -18,6 +18,8 @@ use Rattle.text.specs.Fields.{fields, sized, every, digit, capital, smal
 use Rattle.text.specs.Joined.{joined}
 use Rattle.text.specs.Numbers.{isNumber, isSigned, valueOf, signedOf}
 
+-- What a column holds is a case of `Holds`, an enum of the code: an id, a name, a letter, a number from 0 up or a number of either sign, these two of at most so
+-- many digits.
 -- A column: the title that the header has for it, and what it holds.
 infix 70 _holds_
 pub data Column : Type 0 where
@@ -74,18 +76,23 @@ abbrev pub longestLine : ℕ
 longestLine = 200
 
 -- ---- why a line is no row
+-- By what its columns hold. A fault is a case of `Fault`, an enum of the code: the line is too long, it has not as many fields as there are columns, or the field
+-- with a number, counted from 1, breaks its rule.
 -- The first field from the left that breaks its rule, the first of these fields being number n.
-abbrev pub firstBroken : ℕ → List Column → List (List ℕ) → Option Fault
+abbrev pub firstBroken : ℕ → List Holds → List (List ℕ) → Option Fault
 firstBroken n [] fs = none
-firstBroken n (c ∷ cs) [] = none
-firstBroken n (c ∷ cs) (f ∷ fs) = if rule c f then firstBroken (n + 1) cs fs else some (Broken n)
+firstBroken n (what ∷ others) [] = none
+firstBroken n (what ∷ others) (f ∷ fs) = if ruleOf what f then firstBroken (n + 1) others fs else some (Broken n)
 
--- A line is too long; or it has not as many fields as there are columns; or one of them breaks its rule.
-unfoldable pub faultOf : List Column → List ℕ → Option Fault
-faultOf columns line =
+-- The length is tested first, then the count of fields, then each field.
+unfoldable pub faultBy : List Holds → List ℕ → Option Fault
+faultBy columns line =
     if ltb longestLine (length line) then some TooLong
     else if not (eqb (length (fields line)) (length columns)) then some WrongCount
     else firstBroken 1 columns (fields line)
+
+unfoldable pub faultOf : List Column → List ℕ → Option Fault
+faultOf columns line = faultBy (map held columns) line
 
 abbrev pub isNone : Option Fault → Bool
 isNone none = true

@@ -2,7 +2,8 @@
 -- field starts one past the comma that ends this one, or one past the end of the line, where there is none. Where the field breaks its rule, the next one starts
 -- past even that, so that every later one breaks its rule too.
 use mathlib.Core.List.{List, [], _∷_}
-use mathlib.Core.Bool.{Bool, true, not, _&&_}
+use mathlib.Core.Bool.{Bool, true, _&&_}
+use mathlib.Core.Option.{Option, none, some}
 use Prim.Native.Nat.{ℕ, suc, _+_}
 use Prim.Native.Char.{code}
 use lib.Dec.{leb, ltb, eqb}
@@ -15,9 +16,10 @@ use Rattle.text.specs.Fields.{field}
 use Rattle.text.specs.declared.columns.Holds.{Holds}
 use Rattle.text.specs.declared.columns.Holds.the-variants as holds
 use Rattle.text.specs.declared.columns.Fault.{Fault}
-use Rattle.text.specs.declared.columns.Fault.the-variants.{TooLong, WrongCount, Broken}
+use Rattle.text.specs.declared.columns.Faulty.{Faulty}
+use Rattle.text.specs.declared.columns.Faulty.the-variants.{By, No}
 use Rattle.text.specs.Numbers.{mostDigits, isSigned, signedOf}
-use Rattle.text.specs.Columns.{longestLine, ruleOf}
+use Rattle.text.specs.Columns.{ruleOf}
 
 -- A field ends here: before a comma or at the end of the line.
 abbrev pub ends : List ℕ → Bool
@@ -63,7 +65,7 @@ scannedAt rule value line from = record { value = if leb from (length line) then
 abbrev pub signedAt : ℕ → List ℕ → ℕ → Signed
 signedAt most line from = record { value = if leb from (length line) then signedIn most (drop from line) .value else pos 0; next = nextAt (isSigned most) line from }
 
--- ---- why a line is no row, as it is found
+-- ---- why a line is no row, field by field
 abbrev pub commasIn : List ℕ → ℕ
 commasIn [] = 0
 commasIn (b ∷ s) = if eqb b (code ",") then suc (commasIn s) else commasIn s
@@ -75,12 +77,10 @@ firstLost line n (what ∷ others) from =
     let next = nextAt (ruleOf what) line from in
     if leb next (length line + 1) then firstLost line (n + 1) others next else n
 
--- The fault of a line that is no row of columns that hold these. Of a row it would be a field past the last.
-abbrev pub faultFound : List Holds → List ℕ → Fault
-faultFound held line =
-    if ltb longestLine (length line) then TooLong
-    else if not (eqb (commasIn line + 1) (length held)) then WrongCount
-    else Broken (firstLost line 1 held 0)
+-- What each case of an answer stands for.
+abbrev pub statedFault : Faulty → Option Fault
+statedFault (By fault) = some fault
+statedFault No = none
 
 -- A column's numbers fit 64 bits.
 abbrev pub isNarrow : Holds → Bool

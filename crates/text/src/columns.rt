@@ -1,11 +1,12 @@
 // What the columns of a list hold, and why a line is no row of them.
 ghost use mathlib.Core.Path.{_≡_};
-ghost use mathlib.Core.Bool.{true};
+ghost use mathlib.Core.Bool.{true, false};
+ghost use mathlib.Core.Option.{some};
 ghost use Prim.Native.Nat.{_≤_};
 ghost use lib.ListN.{length, take};
 ghost use Rattle.whole.specs.Any.{every};
-ghost use Rattle.text.specs.Columns.{longestLine, ruleOf};
-ghost use Rattle.text.specs.Scanned.{nextAt, commasIn, firstLost, faultFound, isNarrow};
+ghost use Rattle.text.specs.Columns.{longestLine, ruleOf, faultBy, isNone};
+ghost use Rattle.text.specs.Scanned.{nextAt, commasIn, firstLost, statedFault, isNarrow};
 use crate::field::LONGEST_LINE;
 use crate::name::id_at;
 use crate::name::letter_at;
@@ -32,6 +33,13 @@ pub enum Fault {
     Broken(usize),
 }
 
+// A line's fault, or that it has none.
+pub enum Faulty {
+    By(Fault),
+    No,
+}
+
+// Counted from the last byte on.
 pub fn commas_in(line: &[u8]) -> usize
     ensures { λ r. ⌜ r ≡ commasIn (now (line .entry)) ⌝ }
 {
@@ -78,18 +86,34 @@ fn first_broken(line: &[u8], columns: [Holds; MOST_COLUMNS], count: usize) -> us
     kept + 1
 }
 
-// Why a line is no row of the first `count` columns; it is for lines that are none.
-pub fn fault_in(line: &[u8], columns: [Holds; MOST_COLUMNS], count: usize) -> Fault
+// Why a line is no row of the first `count` columns, if it is none.
+pub fn fault_of(line: &[u8], columns: [Holds; MOST_COLUMNS], count: usize) -> Faulty
     requires { ⌜ (count ≤ length columns) × (every isNarrow columns ≡ true) ⌝ }
-    ensures { λ r. ⌜ r ≡ faultFound (take count columns) (now (line .entry)) ⌝ }
+    ensures { λ r. ⌜ statedFault r ≡ faultBy (take count columns) (now (line .entry)) ⌝ }
 {
     let long = LONGEST_LINE < line.len();
     let wrong_count = commas_in(line) + 1 != count;
     if long {
-        return Fault::TooLong;
+        return Faulty::By(Fault::TooLong);
     }
     if wrong_count {
-        return Fault::WrongCount;
+        return Faulty::By(Fault::WrongCount);
     }
-    Fault::Broken(first_broken(line, columns, count))
+    let field = first_broken(line, columns, count);
+    if field > count {
+        return Faulty::No;
+    }
+    Faulty::By(Fault::Broken(field))
+}
+
+// The same of a line that is known to be none.
+pub fn fault_in(line: &[u8], columns: [Holds; MOST_COLUMNS], count: usize) -> Fault
+    requires { ⌜ (count ≤ length columns) × (every isNarrow columns ≡ true) × (isNone (faultBy (take count columns) (now line)) ≡ false) ⌝ }
+    ensures { λ r. ⌜ faultBy (take count columns) (now (line .entry)) ≡ some r ⌝ }
+{
+    match fault_of(line, columns, count) {
+        Faulty::By(fault) => fault,
+        // Such a line has a fault, so this is never so.
+        Faulty::No => Fault::WrongCount,
+    }
 }

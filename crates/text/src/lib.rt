@@ -7,10 +7,12 @@ mod number;
 mod writing;
 
 pub use columns::Fault;
+pub use columns::Faulty;
 pub use columns::Holds;
 pub use columns::MOST_COLUMNS;
 pub use columns::commas_in;
 pub use columns::fault_in;
+pub use columns::fault_of;
 pub use decimal::put_digits;
 pub use decimal::width;
 pub use field::LONGEST_LINE;

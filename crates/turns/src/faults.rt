@@ -19,10 +19,11 @@ use row::RECORD_COLUMNS;
 use row::RESISTANCES_COLUMNS;
 use row::TOLERANCE_COLUMNS;
 use text::Fault;
+use text::Faulty;
 use text::Holds;
 use text::LONGEST_LINE;
 use text::MOST_COLUMNS;
-use text::fault_in;
+use text::fault_of;
 
 // What the columns of a kind hold, and how many there are.
 fn columns_of(kind: Kind) -> [Holds; MOST_COLUMNS]
@@ -50,26 +51,8 @@ fn count_of(kind: Kind) -> usize
 }
 
 // Why a line is no row, if it is none.
-pub enum Faulty {
-    By(Fault),
-    No,
-}
-
-// A line that is a row is given a field past the last.
-fn is_past(fault: Fault, count: usize) -> bool {
-    match fault {
-        Fault::Broken(number) => number > count,
-        _ => false,
-    }
-}
-
 pub fn fault_on(kind: Kind, line: &[u8]) -> Faulty {
-    let count = count_of(kind);
-    let fault = fault_in(line, columns_of(kind), count);
-    if is_past(fault, count) {
-        return Faulty::No;
-    }
-    Faulty::By(fault)
+    fault_of(line, columns_of(kind), count_of(kind))
 }
 
 fn say_title_in(bytes: [u8; MOST_KEPT], count: usize, number: usize) -> bool

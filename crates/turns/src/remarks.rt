@@ -1,5 +1,4 @@
 // What is to be said of a line besides its answer.
-use crate::faults::Faulty;
 use crate::faults::fault_on;
 use certificate::CertificateAnswer;
 use certificate::FaultyCell;
@@ -10,6 +9,7 @@ use quantity::Refusal;
 use row::RecordParsed;
 use row::ResistancesParsed;
 use text::Fault;
+use text::Faulty;
 
 // So many first bytes of a line are looked at: all that is held of a long one but its last.
 const LOOKED_AT: usize = MOST_HELD - 1;
