@@ -12,7 +12,10 @@
 #include <string.h>
 #include <unistd.h>
 
-enum { BLOCK = 64 * 1024, LINE_MOST = 200, FIELDS = 9, ID_MOST = 16, LAW_MOST = 8, DIGITS_MOST = 13 };
+enum { BLOCK = 64 * 1024, LINE_MOST = 200, FIELDS = 9, ID_MOST = 16, LAW_MOST = 8, DIGITS_MOST = 13, RESISTANCE_DIGITS_MOST = 14 };
+
+/* In nanoohm. */
+static const int64_t RESISTANCE_MOST = 10000000000000, DIVISOR_LEAST = 100000000;
 
 /* Refusals, by their numbers. */
 enum {
@@ -144,8 +147,8 @@ struct reading {
     int64_t wal;           /* units of 10^-9 */
 };
 
-/* A number without sign, leading zero or more than 13 digits, and the byte that must follow it. */
-static bool scan_count(const char **at, char after, int64_t *value)
+/* A number without sign, leading zero or too many digits, and the byte that must follow it. */
+static inline bool scan_count(const char **at, char after, size_t most, int64_t *value)
 {
     const char *first = *at, *p = first;
     uint64_t sum = 0; /* wraps where there are too many digits, and is not used then */
@@ -153,7 +156,7 @@ static bool scan_count(const char **at, char after, int64_t *value)
     while (*p >= '0' && *p <= '9')
         sum = sum * 10 + (uint64_t)(*p++ - '0');
     size_t digits = (size_t)(p - first);
-    if (digits == 0 || digits > DIGITS_MOST || (*first == '0' && digits > 1) || *p != after)
+    if (digits == 0 || digits > most || (*first == '0' && digits > 1) || *p != after)
         return false;
     *value = (int64_t)sum;
     *at = p + 1;
@@ -163,9 +166,9 @@ static bool scan_count(const char **at, char after, int64_t *value)
 static bool scan_signed(const char **at, char after, int64_t *value)
 {
     if (**at != '-')
-        return scan_count(at, after, value);
+        return scan_count(at, after, DIGITS_MOST, value);
     ++*at;
-    if (!scan_count(at, after, value) || *value == 0)
+    if (!scan_count(at, after, DIGITS_MOST, value) || *value == 0)
         return false;
     *value = -*value;
     return true;
@@ -191,9 +194,9 @@ static int scan_fields(const char *line, size_t length, struct reading *it)
     if (it->law_length == 0 || it->law_length > LAW_MOST || *p++ != ',')
         return 2;
 
-    if (!scan_count(&p, ',', &it->r))
+    if (!scan_count(&p, ',', RESISTANCE_DIGITS_MOST, &it->r))
         return 3;
-    if (!scan_count(&p, ',', &it->r0))
+    if (!scan_count(&p, ',', RESISTANCE_DIGITS_MOST, &it->r0))
         return 4;
     if (!scan_signed(&p, ',', &it->a))
         return 5;
@@ -203,7 +206,7 @@ static int scan_fields(const char *line, size_t length, struct reading *it)
         return 7;
     if (!scan_signed(&p, ',', &it->d))
         return 8;
-    return scan_count(&p, '\0', &it->wal) && p == line + length + 1 ? 0 : FIELDS;
+    return scan_count(&p, '\0', DIGITS_MOST, &it->wal) && p == line + length + 1 ? 0 : FIELDS;
 }
 
 static bool has_all_fields(const char *line, size_t length)
@@ -314,7 +317,7 @@ static int read_temperature(const struct reading *it, int32_t *steps)
         return UNKNOWN_LAW;
     if (!sound(law, it))
         return BAD_CERTIFICATE;
-    if (it->r < 1 || it->r > 1000000000000 || it->r0 < 100000000 || it->r0 > 1000000000000)
+    if (it->r < 1 || it->r > RESISTANCE_MOST || it->r0 < DIVISOR_LEAST || it->r0 > RESISTANCE_MOST)
         return BAD_RESISTANCE;
 
     double units = floor((double)it->r * 1e9 / (double)it->r0);

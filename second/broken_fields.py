@@ -9,6 +9,9 @@ from lists import COUNT, ID, LETTER, RESISTANCE, SIGNED, WORD
 from messages import JOINED
 
 NINES = b"9" * 13
+MORE_NINES = b"9" * 14
+
+MANY_DIGITS = "more than {} digits"
 
 # Of a line with a LF it is not said which field breaks its rule.
 WITH_FEED = None
@@ -74,7 +77,10 @@ OF_LETTER = {
 # Of both sorts of numbers.
 OF_NUMBER = {
     "it is empty": (b"",),
-    "a point": (b".", b"1.0", b"1.", b".5", b"0.5", b"00.5", b"1" * 14 + b"."),
+    "a point": (
+        *(b".", b"1.0", b"1.", b".5", b"0.5", b"00.5", b"1" * 14 + b"."),
+        b"1" * 15 + b".",
+    ),
     "a blank": (b" ", b" 1", b"1 ", b"1 0"),
     "a quote": (b'"', b'"1"', b'1"'),
     "a semicolon": (b"1;", b";1"),
@@ -88,7 +94,9 @@ OF_NUMBER = {
     "a byte that may not stand there": (
         *(b"1'000", b"/", b":", b"1\x00", b"\x7f", b"?", b"=1", b"(1)", b"1*1"),
     ),
-    "a leading zero": (b"00", b"007", b"01", b"0" + NINES, b"0" * 14),
+    "a leading zero": (
+        *(b"00", b"007", b"01", b"0" + NINES, b"0" * 14, b"0" + MORE_NINES, b"0" * 15),
+    ),
     WITH_FEED: (b"\n", b"\n1", b"1\n2", b"1\n", b"0.5\n"),
 }
 
@@ -96,7 +104,7 @@ OF_NUMBER = {
 def more_digits(digits):
     """Of numbers of so many digits, such as have more."""
     sizes = (10**digits, 2**63, 2**64, 10**60)
-    return {f"more than {digits} digits": tuple(b"%d" % size for size in sizes)}
+    return {MANY_DIGITS.format(digits): tuple(b"%d" % size for size in sizes)}
 
 
 def of_count(kind):
@@ -140,7 +148,6 @@ BROKEN = {
     RESISTANCE: of_count(RESISTANCE),
     SIGNED: of_signed(SIGNED),
 }
-
 
 
 def kept_numbers(kind):

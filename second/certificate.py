@@ -8,6 +8,7 @@ coefficients in units of 10^-11.
 from quantity import (
     RATIO_MOST,
     RATIO_ONE,
+    RESISTANCE_MOST,
     UNITS_ONE,
     Refused,
     divided,
@@ -157,25 +158,26 @@ def certify(name, ratios):
     return name, *found, wal
 
 
-def ratios_of(resistances):
+def ratios_of(resistances, most):
     """W by cell of the cells measured, or Refused 1 for a cell outside the limits.
 
     A W that is rounded down to 0 stands for not measured, as in every record.
     """
     pairs = {c: pair for c, pair in resistances.items() if pair != NO_RESISTANCES}
     given_cells = [cell for cell in CELLS if cell in pairs]
-    refuse(1, (cell for cell in given_cells if not within_limits(*pairs[cell])))
+    outside = (c for c in given_cells if not within_limits(*pairs[c], most))
+    refuse(1, outside)
     return {cell: divided(*pair) for cell, pair in pairs.items()}
 
 
-def certify_measured(name, resistances):
+def certify_measured(name, resistances, most=RESISTANCE_MOST):
     """The certificate of a record of resistances, R and R0 by cell, or Refused.
 
     Tested in the order 3, 1 and then as the record of its ratios.
     """
     if name not in SUBRANGES:
         raise Refused(3)
-    return certify(name, ratios_of(resistances))
+    return certify(name, ratios_of(resistances, most))
 
 
 def given(name, a, b, c, d, wal):

@@ -5,9 +5,17 @@ Temperatures are Celsius counts.
 """
 
 from fractions import Fraction
+from functools import lru_cache
 
 from cases import CheckFailed
-from quantity import RATIO_MOST, RATIO_ONE, Refused, quotient_down, ratio
+from quantity import (
+    RATIO_MOST,
+    RATIO_ONE,
+    RESISTANCE_MOST,
+    Refused,
+    quotient_down,
+    ratio,
+)
 
 # As printed, to be compared with the standard by eye.
 A = Fraction("3.9083e-3")
@@ -27,6 +35,8 @@ CLASSES = {
 }
 
 
+# A reading, the tests of it, and the same by other limits come to the same steps.
+@lru_cache(maxsize=1024)
 def exact_ratio(step):
     """R/R0 by the standard's own formula, as a fraction."""
     if not FIRST <= step <= PAST_LAST:
@@ -62,6 +72,7 @@ def _multiplied(step):
     return value
 
 
+@lru_cache(maxsize=1024)
 def read(w):
     """The largest step whose exact ratio is not above `w`, or Refused 2, 8 or 9."""
     if w > RATIO_MOST:
@@ -119,7 +130,7 @@ def allows(letter, bath, error):
     return abs(Fraction(error, DEGREE)) <= limit
 
 
-def tolerance(letter, bath, r, r0):
+def tolerance(letter, bath, r, r0, most=RESISTANCE_MOST):
     """Whether the class allows the error, and the error: the curve's step less
     the bath's.
 
@@ -129,5 +140,5 @@ def tolerance(letter, bath, r, r0):
         raise Refused(3)
     first, last, _, _ = CLASSES[letter]
     in_range(bath, first, last)
-    error = read(ratio(r, r0)) - bath
+    error = read(ratio(r, r0, most)) - bath
     return allows(letter, bath, error), error

@@ -9,7 +9,7 @@ way it is made.
 from itertools import combinations
 from typing import NamedTuple
 
-from broken_fields import KEPT, WITH_FEED, broken_fields, due_words
+from broken_fields import KEPT, MANY_DIGITS, WITH_FEED, broken_fields, due_words
 from cases import CheckFailed
 from draws import ID_BYTES
 from field_words import wrong_in
@@ -18,6 +18,7 @@ from lists import (
     LETTER,
     LINE_MOST,
     LISTS,
+    RESISTANCE,
     WRONG_COUNT,
     WRONG_FIELD,
     WRONG_HEADER,
@@ -489,6 +490,20 @@ def pair_cases(one, line):
         yield broken("two fields broken", damaged, first, words)
 
 
+def digits_cases(one, line):
+    """A resistance with all the digits that it may have, and a later number with one
+    too many: this one is named."""
+    places = [place for place, kind in enumerate(one.kinds) if kind == RESISTANCE]
+    for first, second in combinations(range(len(one.kinds)), 2):
+        if first in places:
+            largest = b"9" * RESISTANCE.digits
+            fields = with_field(line().split(COMMA), first, largest).split(COMMA)
+            digits = one.kinds[second].digits
+            damaged = with_field(fields, second, b"%d" % 10**digits)
+            words = due_words(one, second, MANY_DIGITS.format(digits))
+            yield broken("digits, all and too many", damaged, second, words)
+
+
 def with_length(fields, place, size):
     """The line with letters in a field that bring it to so many bytes."""
     rest = with_field(fields, place, b"")
@@ -526,6 +541,7 @@ ILL_FORMED = (
     length_cases,
     broken_cases,
     pair_cases,
+    digits_cases,
     both_cases,
 )
 

@@ -23,6 +23,7 @@ from quantity import (
     RATIO_MOST,
     RATIO_ONE,
     RESISTANCE_MOST,
+    RESISTANCE_MOST_BEFORE,
     UNITS_ONE,
     Refused,
     quotient_down,
@@ -38,8 +39,12 @@ AL_MOST = 3378386986
 
 AL_STEP = 6603230
 
-# Divisors in use: 0.25, 2.5, 25 and 100 ohm.
-DIVISORS = (250000000, 2500000000, 25000000000, 100000000000)
+# Divisors in use: 0.25, 2.5, 25, 100 and 1000 ohm.
+DIVISORS = (250000000, 2500000000, 25000000000, 100000000000, 1000000000000)
+
+# 1 kΩ, and how far the R0 of a Pt1000 may lie from it: 0.12 %, as class B allows.
+KILOHM = 10**12
+KILOHM_OFF = 1200000000
 
 LARGEST = 10**DIGITS_MOST - 1
 LARGEST_RESISTANCE = 10**RESISTANCE_DIGITS_MOST - 1
@@ -320,39 +325,63 @@ def least_ratio(law, places, step):
     return w
 
 
+def most_divisor(w):
+    """The largest R0 by which R has this ratio."""
+    return min(RESISTANCE_MOST, RESISTANCE_MOST * RATIO_ONE // w)
+
+
+def any_divisor(generator, most):
+    """An R0 up to the most, of 9 digits as often as of 13."""
+    n = generator.under(most - DIVISOR_LEAST + 1)
+    return DIVISOR_LEAST + n // 10 ** (n % 5)
+
+
+def least_by(w, r0):
+    """The least R that has this ratio or more by R0, and R0."""
+    return -(-w * r0 // RATIO_ONE), r0
+
+
 def resistances(generator, w):
-    """The least R that has this ratio or more, by a divisor in use or any.
+    """The least R that has this ratio or more, by a divisor in use, by any, or by the
+    largest that there is for it.
 
     The ratio is then under 10 units more, as no divisor is under 0.1 ohm; a
     step is never so short.
     """
-    most = min(RESISTANCE_MOST, RESISTANCE_MOST * RATIO_ONE // w)
+    most = most_divisor(w)
     in_use = DIVISORS[generator.under(len(DIVISORS))]
-    free = DIVISOR_LEAST + generator.under(most - DIVISOR_LEAST + 1)
-    r0 = in_use if generator.under(2) == 0 else free
-    return -(-w * r0 // RATIO_ONE), r0
+    free = any_divisor(generator, most)
+    return least_by(w, (in_use, in_use, free, most)[generator.under(4)])
 
 
-# Each limit of R and of R0 with its neighbours.
-EDGE_R = (
-    0,
-    1,
-    2,
+def widest(w):
+    """R and R0 of just this ratio, the larger of them the most that there is."""
+    r0 = most_divisor(w)
+    return (RESISTANCE_MOST, r0) if w > RATIO_ONE else least_by(w, r0)
+
+
+def near_kilohm(generator):
+    """The R0 of a Pt1000: 1 kΩ, or about that."""
+    return KILOHM + (generator.under(4) > 0) * around(generator, KILOHM_OFF)
+
+
+# Each limit of R and of R0 with its neighbours, now and before.
+EDGES_ABOVE = (
+    RESISTANCE_MOST_BEFORE,
+    RESISTANCE_MOST_BEFORE + 1,
     RESISTANCE_MOST - 1,
     RESISTANCE_MOST,
     RESISTANCE_MOST + 1,
     LARGEST_RESISTANCE,
 )
+EDGE_R = (0, 1, 2, *EDGES_ABOVE)
 EDGE_R0 = (
     0,
     DIVISOR_LEAST - 1,
     DIVISOR_LEAST,
     DIVISOR_LEAST + 1,
     3 * DIVISOR_LEAST,
-    RESISTANCE_MOST - 1,
-    RESISTANCE_MOST,
-    RESISTANCE_MOST + 1,
-    LARGEST_RESISTANCE,
+    *EDGES_ABOVE,
 )
 EDGE_PAIRS = tuple(pairings(EDGE_R, EDGE_R0))
 
@@ -363,8 +392,10 @@ def past_most(r0):
 
 
 def by_ohms(generator, w):
-    """R and R0 with this ratio, R0 a whole number of ohms."""
-    m = 1 + generator.under(220)
+    """R and R0 with this ratio, R0 a whole number of ohms: up to 220, and as often up
+    to 2200."""
+    turn, n = divmod(generator.under(20 * 220), 220)
+    m = 1 + n if turn < 10 else 1 + 10 * n + turn % 10
     return w * m + generator.under(m), m * RATIO_ONE
 
 

@@ -7,6 +7,7 @@ import sys
 sys.dont_write_bytecode = True
 
 import subprocess
+from collections import Counter
 from functools import partial
 from itertools import zip_longest
 from pathlib import Path
@@ -25,8 +26,10 @@ from cases import CheckFailed
 from certificate import WR, certify, given
 from curve import allows, forward, read, tolerance
 from faults import refused_lines
-from lists import LISTS, answer
+from limit_lines import limit_lines
+from lists import BEFORE, LISTS, READINGS, answer, lines_of, list_of
 from messages import MENDING, said, shown
+from promises import check_moved
 from quantity import Refused, kelvin, quotient_down, ratio
 from reading import deviation_at
 from reference import BELOW, PAST, PAST_TOP, TOP, inverse, working
@@ -55,7 +58,12 @@ def example_list(name):
 
 
 def example_answer(name):
-    return answer(EXAMPLES[name], example_list(name))
+    """The answer, with nothing in it moved by the limits of R and R0 that may not."""
+    data = example_list(name)
+    made = answer(EXAMPLES[name], data)
+    for line, due in list(zip(lines_of(data), lines_of(made)))[1:]:
+        check_moved(list_of(EXAMPLES[name], data), line, due, Counter())
+    return made
 
 
 # Each file and its maker; a program may have several.
@@ -206,9 +214,11 @@ def launchlist(data):
     return answer("launchlist", data)
 
 
-def row(name="F1", law="curve", r="138505500000", a="0", d="0", wal="0"):
+def row(
+    name="F1", law="curve", r="138505500000", r0="100000000000", a="0", d="0", wal="0"
+):
     """The document's first line with some of its fields changed."""
-    return f"{name},{law},{r},100000000000,{a},0,0,{d},{wal}".encode("latin-1")
+    return f"{name},{law},{r},{r0},{a},0,0,{d},{wal}".encode("latin-1")
 
 
 def answers(*lines):
@@ -218,6 +228,11 @@ def answers(*lines):
     if head + b"\r\n" != ANSWER_HEAD or end != b"":
         raise CheckFailed(f"list answered {made}")
     return b" ".join(rest).decode("ascii")
+
+
+def answer_before(line):
+    """What was answered to a line before request 9."""
+    return BEFORE[READINGS].answer_line(line).decode("ascii")
 
 
 IS_100 = "F1,curve,1000000,0"
@@ -333,6 +348,16 @@ def mending_checks():
             yield what, LIST, mended, list_ended(ends, last)
 
 
+def ratio_checks():
+    """That a ratio of 14 digits breaks the rule of its column, in each cell."""
+    for place in range(7):
+        ratios = ["0"] * 7
+        ratios[place] = "10000000000000"
+        due = f"?,?,{place + 3},,,,,14"
+        line = ",".join(("R1", "ga", *ratios))
+        yield f"14 digits in cell {place + 1}", due, bench, RATIOS, line
+
+
 NO_RECORD = crlf("id,law,a,b,c,d,wal,code\n?,?,,,,,,10\n")
 
 # A sensor without deviation below aluminium, and all of it by 150 ohm.
@@ -399,7 +424,20 @@ SELF_CHECKS = (
     ("card 9: 4.4 exactly is a ratio", 4_400_000_000, ratio, 440 * 10**9, 10**11),
     ("under a unit above 4.4", 4_400_000_000, ratio, 440 * 10**9 + 99, 10**11),
     ("card 9: one unit more", "refused 2", ratio, 440 * 10**9 + 100, 10**11),
-    ("refusal 1 goes before 2", "refused 1", ratio, 10**12, 10**8 - 1),
+    ("refusal 1 goes before 2", "refused 1", ratio, 10**13, 10**8 - 1),
+    ("R and R0 at the most", 1_000_000_000, ratio, 10**13, 10**13),
+    ("R over it", "refused 1", ratio, 10**13 + 1, 10**13),
+    ("R0 over it", "refused 1", ratio, 10**13, 10**13 + 1),
+    ("both over it before", 1_000_000_000, ratio, 10**12 + 1, 10**12 + 1),
+    ("by the most of before", "refused 1", ratio, 10**12 + 1, 10**12, 10**12),
+    ("R0 by it", "refused 1", ratio, 10**12, 10**12 + 1, 10**12),
+    ("both at it", 1_000_000_000, ratio, 10**12, 10**12, 10**12),
+    ("R at the most, R0 at the least", "refused 2", ratio, 10**13, 10**8),
+    ("R at the most, W = 4.4", 4_400_000_000, ratio, 10**13, 2_272_727_272_211),
+    ("one unit more", "refused 2", ratio, 10**13, 2_272_727_272_210),
+    ("R0 at the most", 999_999_999, ratio, 10**13 - 1, 10**13),
+    ("the least ratio over 0", 1, ratio, 10**4, 10**13),
+    ("less", 0, ratio, 10**4 - 1, 10**13),
     ("quotient -1/2", -1, quotient_down, -1, 2),
     ("quotient 1/-2", -1, quotient_down, 1, -2),
     ("quotient -1/-2", 0, quotient_down, -1, -2),
@@ -456,7 +494,7 @@ SELF_CHECKS = (
     ("B, 8 for the bath before 1", "refused 8", tolerance, CLASS_B, -2_000_001, 0, 0),
     ("B, 9 for the bath before 1", "refused 9", tolerance, CLASS_B, 8_500_001, 0, 0),
     ("R outside its limits", "refused 1", tolerance, CLASS_B, 8_500_000, 0, 10**8),
-    ("2 before 9", "refused 2", tolerance, CLASS_B, 0, 10**12, 10**8),
+    ("2 before 9", "refused 2", tolerance, CLASS_B, 0, 10**13, 10**8),
     ("W under the range", "refused 8", tolerance, CLASS_B, 0, 1, 10**8),
     ("W over the range", "refused 9", tolerance, CLASS_B, 0, 440 * 10**9, 10**11),
     # Mercury lies below the reference function used here.
@@ -645,8 +683,8 @@ SELF_CHECKS = (
     ("reading, 3 before 7", "refused 3", reading.read, "pt", 10**9, 0, 0, 0, 0, 0, 0),
     ("reading, 7 before 1", "refused 7", reading.read, "ga", 10**9, 0, 0, 0, 0, 0, 0),
     ("curve, 7 before 1", "refused 7", reading.read, "curve", 0, 0, 0, 0, 1, 0, 0),
-    ("reading, 1 before 2", "refused 1", reading.read, *ZERO_GA, 10**12 + 1, 10**8),
-    ("reading, 2 before 9", "refused 2", reading.read, *ZERO_GA, 10**12, 10**8),
+    ("reading, 1 before 2", "refused 1", reading.read, *ZERO_GA, 10**13 + 1, 10**8),
+    ("reading, 2 before 9", "refused 2", reading.read, *ZERO_GA, 10**13, 10**8),
     ("forward, 0 °C", ("ag", 999_960_110), reading.forward, *ZERO_AG, 0),
     ("forward, 481 °C", ("ag", 2_781_572_540), reading.forward, *ZERO_AG, 4_810_000),
     ("forward, 0 °C by the curve", ("curve", 10**9), reading.forward, *ZERO_CURVE, 0),
@@ -727,8 +765,29 @@ SELF_CHECKS = (
     ("space", "?,?,3,14", answers, row(r="138505500000 ")),
     ("LF at the end of a number", "?,?,9,14", answers, row(wal="0\n")),
     ("digit past ASCII", "?,?,5,14", answers, row(a="1\xb2")),
-    ("R of 13 digits", "F1,curve,,1", answers, row(r="9999999999999")),
-    ("R of 14 digits", "?,?,3,14", answers, row(r="10000000000000")),
+    ("R of 13 digits", "F1,curve,,2", answers, row(r="9999999999999")),
+    ("R of 14 digits", "F1,curve,,2", answers, row(r="10000000000000")),
+    ("a nanoohm more", "F1,curve,,1", answers, row(r="10000000000001")),
+    ("R of 15 digits", "?,?,3,14", answers, row(r="100000000000000")),
+    ("R0 of 13 digits", "F1,curve,,8", answers, row(r0="9999999999999")),
+    ("R0 of 14 digits", "F1,curve,,8", answers, row(r0="10000000000000")),
+    ("a nanoohm more", "F1,curve,,1", answers, row(r0="10000000000001")),
+    ("R0 of 15 digits", "?,?,4,14", answers, row(r0="100000000000000")),
+    (
+        "R of 14 digits, R0 of 15",
+        "?,?,4,14",
+        *(answers, row(r="10000000000000", r0="100000000000000")),
+    ),
+    ("R of 13 digits, before", "F1,curve,,1", answer_before, row(r="9999999999999")),
+    ("R of 14 digits, before", "?,?,3,14", answer_before, row(r="10000000000000")),
+    ("R0 of 14 digits, before", "?,?,4,14", answer_before, row(r0="10000000000000")),
+    (
+        "R of 14 digits, R0 of 15, before",
+        "?,?,3,14",
+        *(answer_before, row(r="10000000000000", r0="100000000000000")),
+    ),
+    ("W(Al) of 13 digits", "F1,curve,,7", answers, row(wal="9999999999999")),
+    ("W(Al) of 14 digits", "?,?,9,14", answers, row(wal="10000000000000")),
     ("a of 13 digits", "F1,curve,,7", answers, row(a="-9999999999999")),
     ("a of 14 digits", "?,?,5,14", answers, row(a="-10000000000000")),
     # W = 1, then card 7; card 9 with R0 100 ohm.
@@ -771,6 +830,21 @@ SELF_CHECKS = (
     ("said of an id", "field 1, id: an underscore\n", said_of_row, row("F_1")),
     ("said of a law", "field 2, law: a capital letter\n", said_of_row, row(law="AG")),
     ("said of r", "field 3, r: a point\n", said_of_row, row(r="138.5")),
+    (
+        "said of 15 digits",
+        "field 3, r: more than 14 digits\n",
+        *(said_of_row, row(r="100000000000000")),
+    ),
+    (
+        "said of them in r0",
+        "field 4, r0: more than 14 digits\n",
+        *(said_of_row, row(r="10000000000000", r0="100000000000000")),
+    ),
+    (
+        "said of 14 digits in wal",
+        "field 9, wal: more than 13 digits\n",
+        *(said_of_row, row(r="10000000000000", wal="10000000000000")),
+    ),
     ("said of a", "field 5, a: a minus before 0\n", said_of_row, row(a="-0")),
     ("said of wal", "field 9, wal: a CR\n", said_of_row, row() + b"\r"),
     ("said of two fields", "field 3, r: it is empty\n", said_of_row, row(r="", wal="")),
@@ -832,8 +906,28 @@ SELF_CHECKS = (
     ),
     (
         "said of hg0",
-        "field 4, hg0: more than 13 digits\n",
+        "field 4, hg0: more than 14 digits\n",
+        *(said_of, RESISTANCES, "R1,ga,0,100000000000000,0,0" + FIVE_NOT_MEASURED),
+    ),
+    (
+        "said of hg0 of 14 digits",
+        "1, hg: its R or R0 is outside its limits\n",
         *(said_of, RESISTANCES, "R1,ga,0,10000000000000,0,0" + FIVE_NOT_MEASURED),
+    ),
+    (
+        "said of ga of 14 digits, a ratio",
+        "field 4, ga: more than 13 digits\n",
+        *(said_of, RATIOS, "R1,ga,0,10000000000000,0,0,0,0,0"),
+    ),
+    (
+        "said of r of a tolerance test",
+        "field 4, r: more than 14 digits\n",
+        *(said_of, TOLERANCE, "S1,A,0,100000000000000,1"),
+    ),
+    (
+        "said of t of 14 digits",
+        "field 3, t: more than 13 digits\n",
+        *(said_of, TOLERANCE, "S1,A,-10000000000000,1,1"),
     ),
     ("said of t", "field 3, t: a minus alone\n", said_of, TOLERANCE, "S1,A,-,1,1"),
     (
@@ -875,6 +969,12 @@ SELF_CHECKS = (
     ("record, 5", "R1,in,,,,,,5", bench, RATIOS, "R1,in,0,0,1609801850,0,0,0,0"),
     ("record, 7", "R1,ga,,,,,,7", bench, RATIOS, "R1,ga,0,1200000000,0,0,0,0,0"),
     ("record, minus", "?,?,4,,,,,14", bench, RATIOS, "R1,ga,0,-1118070000,0,0,0,0,0"),
+    (
+        "record, 13 digits",
+        "R1,ga,,,,,,2",
+        *(bench, RATIOS, "R1,ga,9999999999999,0,0,0,0,0,0"),
+    ),
+    *ratio_checks(),
     ("record, empty line", "?,?,,,,,,13", bench, RATIOS, ""),
     ("record, 201 bytes", "?,?,,,,,,12", bench, RATIOS, "x" * 201),
     (
@@ -957,6 +1057,16 @@ SELF_CHECKS = (
     ("forward, 7", "X1,ga,,7", bench, FORWARD, "X1,ga,-1,100000001,0,0,0,0"),
     ("forward, 8", "X1,ga,,8", bench, FORWARD, "X1,ga,-1,100000000,0,0,0,0"),
     ("forward, 9", "X1,ga,,9", bench, FORWARD, "X1,ga,297647,0,0,0,0,0"),
+    (
+        "forward, 13 digits",
+        "X1,curve,,8",
+        *(bench, FORWARD, "X1,curve,-9999999999999,0,0,0,0,0"),
+    ),
+    (
+        "forward, 14 digits",
+        "?,?,3,14",
+        *(bench, FORWARD, "X1,curve,-10000000000000,0,0,0,0,0"),
+    ),
     ("forward, 12", "?,?,,12", bench, FORWARD, "," * 201),
     ("forward, 13", "?,?,,13", bench, FORWARD, "X1,ga,-0,0,0,0,0"),
     ("forward, -0", "?,?,3,14", bench, FORWARD, "X1,ga,-0,0,0,0,0,0"),
@@ -1132,9 +1242,10 @@ def self_check():
         found = outcome(function, arguments)
         if found != due:
             raise CheckFailed(f"{what}: {found}, due {due}")
-    # Each of these lines is tested where it is given.
     for one in LISTS.values():
-        list(refused_lines(one))
+        # Each of these lines is tested where it is given.
+        for line in (*refused_lines(one), *limit_lines(one)):
+            check_moved(one, line, one.answer_line(line), Counter())
         for damaged in damage.broken_cases(one, lambda: GOOD[one]):
             damage.check_damaged(one, damaged)
 

@@ -15,8 +15,17 @@ import record_families
 import tolerance_families
 from cases import CheckFailed
 from certificate import CELLS
-from family import check_family, code_of, part, parts
-from lists import FORWARD, RATIOS, READINGS, RESISTANCES, TOLERANCE, WRONG_LENGTH
+from family import check_family, part, parts
+from lists import (
+    FORWARD,
+    RATIOS,
+    READINGS,
+    RESISTANCES,
+    TOLERANCE,
+    WRONG_FIELD,
+    WRONG_LENGTH,
+    code_of,
+)
 from promises import Survey, check_seen, in_thousandths
 
 FAMILIES = (
@@ -77,6 +86,15 @@ CODES = {
 }
 CODE_LEAST = 50
 
+# The numbers that lines of the families got by the limits of R and R0 before, where
+# they get another now, and that other; every line of a family is well-formed now.
+MOVED = {
+    READINGS: {1: (0, 2, 8, 9), WRONG_FIELD: (0, 1, 2, 3, 7, 8, 9)},
+    RESISTANCES: {1: (0, 2, 4, 5, 6, 7), WRONG_FIELD: (0, 1, 2, 3, 4, 5, 6, 7)},
+    TOLERANCE: {1: (0, 2, 8, 9), WRONG_FIELD: (0, 1, 2, 3, 8, 9)},
+}
+MOVED_LEAST = 20
+
 
 def check_orders(orders):
     for call, firsts in ORDERS.items():
@@ -104,10 +122,20 @@ def check_codes(codes):
     check_seen("lines", codes, least)
 
 
+def check_moved(moved):
+    """That lines moved from each number to each that they can move to."""
+    least = {
+        (one.name, was, now): MOVED_LEAST
+        for one, numbers in MOVED.items()
+        for was in numbers
+        for now in numbers[was]
+    }
+    check_seen("moved lines", moved, least)
+
+
 def tell():
     """Tells what each family met."""
-    orders = Counter()
-    cells = Counter()
+    met = Survey()
     codes = Counter()
     for family in FAMILIES:
         survey = Survey()
@@ -116,8 +144,7 @@ def tell():
             for one, lines in part(family, first, survey).items():
                 counts[one.name] += len(lines)
                 codes.update((one.name, code_of(due)) for _, due in lines)
-        orders += survey.orders
-        cells += survey.cells
+        met.add(survey)
         print(f"{family.name}: {family.size} cases, {dict(counts)}")
         for what, count in sorted(survey.seen.items(), key=str):
             print(f"  {what}: {count}")
@@ -125,15 +152,18 @@ def tell():
             print(f"  over, in thousandths of a unit: {in_thousandths(survey.over)}")
             print(f"  under, in thousandths of a unit: {in_thousandths(survey.under)}")
         check_family(family, survey.seen)
-    for (call, pair), count in sorted(orders.items()):
+    for (call, pair), count in sorted(met.orders.items()):
         print(f"{call}, {pair}: {count}")
-    for (call, number, cell), count in sorted(cells.items(), key=str):
+    for (call, number, cell), count in sorted(met.cells.items(), key=str):
         print(f"{call}, {number} for {cell}: {count}")
     for (name, code), count in sorted(codes.items()):
         print(f"{name}, code {code}: {count}")
-    check_orders(orders)
-    check_cells(cells)
+    for (name, was, now), count in sorted(met.moved.items()):
+        print(f"{name}, moved from {was} to {now}: {count}")
+    check_orders(met.orders)
+    check_cells(met.cells)
     check_codes(codes)
+    check_moved(met.moved)
 
 
 if __name__ == "__main__":

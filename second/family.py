@@ -7,8 +7,8 @@ from collections.abc import Callable
 from typing import NamedTuple
 
 from cases import CheckFailed, Generator
-from lists import COMMA, LINE_MOST, WRONG_LENGTH, LineFault, List, line_of
-from promises import check_seen
+from lists import LINE_MOST, WRONG_LENGTH, LineFault, List, line_of
+from promises import check_moved, check_seen
 
 
 class Line(NamedTuple):
@@ -100,14 +100,10 @@ def part(family, first, survey):
             text, name = named_line(family, i, place, line)
             check_made(line.one, text, name, line.values)
             due = due_line(line, text, name)
+            check_moved(line.one, text, due, survey.moved)
             made.setdefault(line.one, []).append((text, due))
     for one, lines in made.items():
         for text, due in lines[::CHECKED_EVERY]:
             if one.answer_line(text) != due:
                 raise CheckFailed(f"{text} of {one.name} is due {due}")
     return made
-
-
-def code_of(due):
-    """The number that ends an answer."""
-    return int(due.rsplit(COMMA, 1)[1])

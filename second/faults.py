@@ -133,10 +133,12 @@ R0 = 25 * 10**9
 NO_R = (0, R0)
 NO_R0 = (R0, 0)
 OUTSIDE = (
-    *(NO_R, NO_R0, (R0, 10**8 - 1), (10**12 + 1, R0), (R0, 10**12 + 1)),
+    *(NO_R, NO_R0, (R0, 10**8 - 1), (10**13 + 1, R0), (R0, 10**13 + 1)),
     *((0, 1), (1, 0)),
 )
-TINY = (1, 10**12)  # has a ratio that is rounded down to 0
+# Have a ratio that is rounded down to 0.
+TINY = (1, 10**12)
+TINIER = (9999, 10**13)
 
 BY_RESISTANCES = (
     *(Fault("ag", {cell: pair}, 1, cell) for cell, pair in zip(CELLS, OUTSIDE)),
@@ -156,6 +158,19 @@ BY_RESISTANCES = (
     Fault("in", {"Hg": TINY, "Ga": GA}, 6, "Ga"),
     Fault("in", {"Hg": TINY, "Ga": TINY}, 5),
     Fault("pt", {"Sn": NO_R}, 3),
+    # Over 1 kΩ: two cells of before are within their limits, and the next is not;
+    # above 4.4; not measured; by purity and by deviation.
+    Fault("ag", {"Hg": (10**12 + 1, R0), "Sn": (R0, 10**13 + 1)}, 1, "Sn"),
+    Fault("ga", {"Hg": (10**13, 10**13), "Ag": (10**13, 10**13 + 1)}, 1, "Ag"),
+    Fault("ag", {"Hg": (10**12 + 1, R0)}, 2, "Hg"),
+    Fault("ag", {"Zn": (10**13, 10**8)}, 2, "Zn"),
+    Fault("in", {"In": (10**13, 2272727272210)}, 2, "In"),
+    Fault("in", {"In": (10**13, 2272727272211)}, 7, "In"),
+    Fault("zn", {"Sn": TINIER}, 4, "Sn"),
+    Fault("in", {"Hg": TINIER, "Ga": TINIER}, 5),
+    Fault("in", {"Hg": (1, 10**13), "Ga": (GA * 10**3, 10**12)}, 6, "Ga"),
+    Fault("ag", {"Al": (10**13, 10**13)}, 7, "Al"),
+    Fault("pt", {"Sn": (10**13 + 1, R0)}, 3),
 )
 
 
@@ -190,6 +205,9 @@ REFUSED = {
         (b"N4,curve,440000000100,100000000000,0,0,0,0,0", 2, None),
         (b"N5,curve,18520079900,100000000000,0,0,0,0,0", 8, None),
         (b"N6,curve,390481154300,100000000000,0,0,0,0,0", 9, None),
+        (b"N7,curve,10000000000001,1000000000000,0,0,0,0,0", 1, None),
+        (b"N8,curve,1000000000000,10000000000001,0,0,0,0,0", 1, None),
+        (b"N9,curve,10000000000000,100000000,0,0,0,0,0", 2, None),
     ),
     RATIOS: tuple(record_lines(BY_RATIOS, ratios_of)),
     RESISTANCES: tuple(record_lines((*BY_RATIOS, *BY_RESISTANCES), resistances_of)),
@@ -205,6 +223,8 @@ REFUSED = {
         (b"N3,A,6500001,100000000000,100000000000", 9, None),
         (b"N4,B,0,0,100000000000", 1, None),
         (b"N5,B,0,440000000100,100000000000", 2, None),
+        (b"N6,B,0,10000000000001,1000000000000", 1, None),
+        (b"N7,A,0,10000000000000,100000000", 2, None),
     ),
 }
 

@@ -12,9 +12,10 @@ from broken_fields import broken_fields
 from cases import CheckFailed, Generator
 from damage import BYTE_ORDER_MARK, CR, LF, LONG, NUL, with_field, with_more
 from faults import REFUSED, refused_lines
-from lists import COMMA, FORWARD, LINE_END
+from limit_lines import limit_lines
+from lists import BEFORE, COMMA, FORWARD, LINE_END
 from messages import SAID_MOST
-from samples import GOOD, NEXT, drawn_line
+from samples import GOOD, NEXT, WIDEST, drawn_line
 
 SEED = 602
 
@@ -289,11 +290,22 @@ def open_inputs(one):
         yield f"{count} lines joined by LF, a short one without CRLF", start + b"x"
 
 
+def limit_inputs(one):
+    """Lists with resistances about their limits."""
+    if one in BEFORE:
+        lines = list(limit_lines(one))
+        yield "about the limits of R and R0", listed(one, *lines)
+        between = chain.from_iterable((line, GOOD[one]) for line in lines)
+        yield "about the limits, good ones between", listed(one, *between)
+        yield "largest R without CRLF", listed(one) + WIDEST[one]
+
+
 def said_inputs(one):
     """Lists about what is said of lines, each small enough to be fed slowly."""
     yield from joined_inputs(one)
     yield from refused_inputs(one)
     yield from open_inputs(one)
+    yield from limit_inputs(one)
 
 
 # Lines that are shorter than their answers: those to one read are more than the

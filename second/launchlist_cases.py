@@ -21,14 +21,30 @@ from draws import (
     AL_MOST,
     AL_STEP,
     AL_WR,
+    EDGES_ABOVE,
     LARGEST,
+    LARGEST_RESISTANCE,
+    least_by,
     least_ratio,
     name_for,
+    near_kilohm,
     places_for,
     resistances,
+    widest,
 )
-from lists import COMMA, LINE_END, READINGS, WRONG_FIELD, WRONG_LINE, answer
-from promises import check_seen
+from family import for_each
+from limit_lines import LONGEST_ROW, limit_lines
+from lists import (
+    COMMA,
+    LINE_END,
+    READINGS,
+    WRONG_FIELD,
+    WRONG_LINE,
+    answer,
+    code_of,
+    field_of,
+)
+from promises import check_moved, check_seen
 from quantity import DIVISOR_LEAST, RATIO_MOST, RESISTANCE_MOST
 from reading import CURVE, bounds
 
@@ -138,14 +154,29 @@ def answered_cases(generator):
             for upper in range(2):
                 name = name_for(generator)
                 yield reading_for(generator, name, law, step, upper)
-        # The least and the largest divisor, each with W = 1: at 0 °C on the
-        # curve and, by definition, at 0.01 °C on the scale.
+        # The least and the largest divisor, and those about the largest before, each
+        # with W = 1: at 0 °C on the curve and, by definition, at 0.01 °C on the scale.
         result = answered(0 if law == CURVE else 100)
-        for r0 in (DIVISOR_LEAST, RESISTANCE_MOST):
+        for r0 in (DIVISOR_LEAST, *EDGES_ABOVE[:-2]):
             asked = (law, places_for(generator, law), r0, r0)
             yield well_formed("answered", name_for(generator), *asked, result)
     for name in NAMES:
         yield drawn_reading(generator, name)
+
+
+def large_cases(generator):
+    """Readings by about 1 kΩ, each by the least R of its step and by the largest; and
+    with R or R0 the most."""
+    for law in LAWS:
+        for step in steps_for(generator, law)[::4]:
+            places = places_for(generator, law)
+            r0 = near_kilohm(generator)
+            past, _ = least_by(least_ratio(law, places, step + 1), r0)
+            w = least_ratio(law, places, step)
+            for pair in (least_by(w, r0), (past - 1, r0), widest(w)):
+                asked = (law, places, *pair)
+                name = name_for(generator)
+                yield well_formed("answered", name, *asked, answered(step))
 
 
 # Refusals of well-formed lines.
@@ -224,12 +255,12 @@ OUTSIDE = (
     (0, 10**11),
     (RESISTANCE_MOST + 1, RESISTANCE_MOST),
     (RESISTANCE_MOST + 1, DIVISOR_LEAST),
-    (LARGEST, 10**11),
+    (LARGEST_RESISTANCE, 10**11),
     (10**11, 0),
     (10**8, DIVISOR_LEAST - 1),
     (RESISTANCE_MOST, DIVISOR_LEAST - 1),
     (RESISTANCE_MOST, RESISTANCE_MOST + 1),
-    (10**11, LARGEST),
+    (10**11, LARGEST_RESISTANCE),
 )
 
 
@@ -261,13 +292,23 @@ def range_cases(generator):
 
 
 def longest_cases(generator):
-    """The longest lines that the fields' limits leave, 127 bytes, and near that."""
+    """The longest lines that the fields' limits leave, 129 bytes, and near that."""
     lowest = (-LARGEST, -LARGEST, -LARGEST, -LARGEST, LARGEST)
     name = b"LONGEST-OF-LINES"
     for law, number in (("lawlawla", 3), ("curve", 7), ("ag", 7)):
         for places in (lowest, FULL):
-            asked = (law, places, LARGEST, LARGEST)
+            asked = (law, places, LARGEST_RESISTANCE, LARGEST_RESISTANCE)
             yield well_formed("longest", name, *asked, refused(number))
+
+
+def limit_cases(generator):
+    """Lines about the limits of R and R0, by hand."""
+    for line in limit_lines(READINGS):
+        asked = None
+        if READINGS.fault_of(line) is None:
+            _, law, r, r0, *places = READINGS.values_of(line)
+            asked = (law, places, r, r0)
+        yield Case("about the limits", line, READINGS.answer_line(line), asked)
 
 
 # Damages.
@@ -296,11 +337,13 @@ def byte_cases(generator):
 
 GROUPS = (
     answered_cases,
+    large_cases,
     unknown_cases,
     unsound_cases,
     outside_cases,
     range_cases,
     longest_cases,
+    limit_cases,
     damage_cases(damage.field_cases),
     byte_cases,
     damage_cases(damage.count_cases),
@@ -309,6 +352,7 @@ GROUPS = (
     damage_cases(damage.length_cases),
     damage_cases(damage.broken_cases),
     damage_cases(damage.pair_cases),
+    damage_cases(damage.digits_cases),
     damage_cases(damage.both_cases),
 )
 
@@ -334,13 +378,8 @@ def stdin():
     return LINE_END.join((HEADER, *(case.line for case in all_cases())))
 
 
-def code_of(case):
-    return int(case.due.rsplit(COMMA, 1)[1])
-
-
-def field_of(case):
-    """The field that a refusal names."""
-    return int(case.due.split(COMMA)[2])
+def code_due(case):
+    return code_of(case.due)
 
 
 def check_reading(case, survey):
@@ -353,7 +392,13 @@ def check_reading(case, survey):
 
 
 # How many kinds of damage there are: one that is no longer done is missed.
-KINDS_OF_DAMAGE = 119
+KINDS_OF_DAMAGE = 122
+
+# The numbers that lines moved from with the limits of R and R0, and those to which.
+MOVES = {
+    **for_each((1,), (0, 2, 8, 9), 1),
+    **for_each((WRONG_FIELD,), (0, 1, 2, 3, 7, 8, 9, WRONG_FIELD), 1),
+}
 
 
 def check_met(cases):
@@ -363,17 +408,33 @@ def check_met(cases):
     check_seen("kinds", {"of damage": len(done)}, {"of damage": KINDS_OF_DAMAGE})
     least = {0: 300, 1: 50, 2: 20, 3: 40, 7: 50, 8: 20, 9: 40}
     least |= dict.fromkeys(WRONG_LINE, 100)
-    check_seen("lines", Counter(map(code_of, cases)), least)
-    named = Counter(field_of(case) for case in cases if code_of(case) == WRONG_FIELD)
+    check_seen("lines", Counter(map(code_due, cases)), least)
+    broken = [case.due for case in cases if code_due(case) == WRONG_FIELD]
+    named = Counter(map(field_of, broken))
     check_seen("fields", named, dict.fromkeys(range(1, len(READINGS.kinds) + 1), 100))
-    laws = Counter(case.asked[0] for case in cases if code_of(case) == 0)
+    laws = Counter(case.asked[0] for case in cases if code_due(case) == 0)
     check_seen("laws", laws, dict.fromkeys(LAWS, 40))
+    longest = max(len(case.line) for case in cases if case.asked is not None)
+    if longest != LONGEST_ROW:
+        raise CheckFailed(f"the longest row has {longest} bytes")
+
+
+def check_moves(cases):
+    """That no answer moved with the limits of R and R0 that may not, and what did."""
+    moved = Counter()
+    for case in cases:
+        check_moved(READINGS, case.line, case.due, moved)
+    met = Counter()
+    for (_, was, now), count in moved.items():
+        met[was, now] += count
+    check_seen("moved lines", met, MOVES)
 
 
 def stdout():
     """The answers, each compared with the one due."""
     cases = all_cases()
     check_met(cases)
+    check_moves(cases)
     survey = promises.Survey()
     for case in cases:
         if case.asked is not None:
@@ -390,7 +451,7 @@ def tell():
     """Tells what the lines met."""
     print(f"stdin: {len(stdin())} bytes, {len(all_cases())} lines after the header")
     print(f"stdout: {len(stdout())} bytes")
-    for code, count in sorted(Counter(map(code_of, all_cases())).items()):
+    for code, count in sorted(Counter(map(code_due, all_cases())).items()):
         print(f"  code {code}: {count}")
     for kind, count in sorted(Counter(case.kind for case in all_cases()).items()):
         print(f"  {kind}: {count}")

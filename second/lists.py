@@ -8,11 +8,11 @@ looked at byte by byte.
 
 import re
 from collections.abc import Callable
-from functools import lru_cache
+from functools import lru_cache, partial
 from typing import NamedTuple
 
 from certificate import CELLS, certify, certify_measured
-from quantity import Refused
+from quantity import RESISTANCE_MOST, RESISTANCE_MOST_BEFORE, Refused
 from reading import forward, read, tolerance
 
 LINE_END = b"\r\n"
@@ -23,7 +23,9 @@ LINE_MOST = 200  # bytes before CRLF
 ID_MOST = 16
 WORD_MOST = 8
 DIGITS_MOST = 13
-RESISTANCE_DIGITS_MOST = 13
+RESISTANCE_DIGITS_MOST = 14
+
+RESISTANCE_DIGITS_BEFORE = 13  # before request 9
 
 # The number of a wrong first line, and of an ill-formed one after it by what is
 # wrong, in the order of the tests.
@@ -82,6 +84,16 @@ def line_of(*values):
     """The line of these values: bytes, text and numbers."""
     parts = [v if isinstance(v, bytes) else str(v).encode("ascii") for v in values]
     return COMMA.join(parts)
+
+
+def code_of(answered):
+    """The number that ends an answer."""
+    return int(answered.rsplit(COMMA, 1)[1])
+
+
+def field_of(answered):
+    """The field that a refusal by 14 names."""
+    return int(answered.split(COMMA)[2])
 
 
 class List:
@@ -153,8 +165,8 @@ class List:
         return self.written(name, label, outcome)
 
 
-def reading_of(law, r, r0, *places):
-    _, step = read(law, *places, r, r0)
+def reading_of(law, r, r0, *places, most):
+    _, step = read(law, *places, r, r0, most)
     return (step,)
 
 
@@ -163,9 +175,9 @@ def certificate_of(subrange, *ratios):
     return places
 
 
-def measured_of(subrange, *resistances):
+def measured_of(subrange, *resistances, most):
     pairs = zip(resistances[::2], resistances[1::2])
-    _, *places = certify_measured(subrange, dict(zip(CELLS, pairs)))
+    _, *places = certify_measured(subrange, dict(zip(CELLS, pairs)), most)
     return places
 
 
@@ -174,45 +186,66 @@ def ratio_of(law, step, *places):
     return (w,)
 
 
-def verdict_of(letter, bath, r, r0):
-    _, passes, error = tolerance(ord(letter), bath, r, r0)
+def verdict_of(letter, bath, r, r0, most):
+    _, passes, error = tolerance(ord(letter), bath, r, r0, most)
     return "pass" if passes else "fail", error
 
 
-READINGS = List(
-    "readings",
-    {"id": ID, "law": WORD, "r": RESISTANCE, "r0": RESISTANCE, **PLACES},
-    b"id,law,t,code",
-    reading_of,
-)
+# The lists that hold resistances, by the most that R and R0 may be and the digits
+# that they may have.
+
+
+def readings_by(most, digits):
+    r = count(digits)
+    columns = {"id": ID, "law": WORD, "r": r, "r0": r, **PLACES}
+    return List("readings", columns, b"id,law,t,code", partial(reading_of, most=most))
+
+
+def resistances_by(most, digits):
+    cells = [name + end for name in CELL_NAMES for end in ("", "0")]
+    return List(
+        "resistances",
+        {"id": ID, "subrange": WORD, **dict.fromkeys(cells, count(digits))},
+        b"id,law,a,b,c,d,wal,code",
+        partial(measured_of, most=most),
+    )
+
+
+def tolerance_by(most, digits):
+    r = count(digits)
+    return List(
+        "tolerance",
+        {"id": ID, "class": LETTER, "t": SIGNED, "r": r, "r0": r},
+        b"id,class,result,error,code",
+        partial(verdict_of, most=most),
+    )
+
+
+LIMITS = (RESISTANCE_MOST, RESISTANCE_DIGITS_MOST)
+LIMITS_BEFORE = (RESISTANCE_MOST_BEFORE, RESISTANCE_DIGITS_BEFORE)
+
+READINGS = readings_by(*LIMITS)
 RATIOS = List(
     "ratios",
     {"id": ID, "subrange": WORD, **dict.fromkeys(CELL_NAMES, COUNT)},
     b"id,law,a,b,c,d,wal,code",
     certificate_of,
 )
-RESISTANCES = List(
-    "resistances",
-    {
-        "id": ID,
-        "subrange": WORD,
-        **{name + end: RESISTANCE for name in CELL_NAMES for end in ("", "0")},
-    },
-    b"id,law,a,b,c,d,wal,code",
-    measured_of,
-)
+RESISTANCES = resistances_by(*LIMITS)
 FORWARD = List(
     "forward",
     {"id": ID, "law": WORD, "t": SIGNED, **PLACES},
     b"id,law,w,code",
     ratio_of,
 )
-TOLERANCE = List(
-    "tolerance",
-    {"id": ID, "class": LETTER, "t": SIGNED, "r": RESISTANCE, "r0": RESISTANCE},
-    b"id,class,result,error,code",
-    verdict_of,
-)
+TOLERANCE = tolerance_by(*LIMITS)
+
+# Those that hold resistances, each with the same list by the limits before.
+BEFORE = {
+    READINGS: readings_by(*LIMITS_BEFORE),
+    RESISTANCES: resistances_by(*LIMITS_BEFORE),
+    TOLERANCE: tolerance_by(*LIMITS_BEFORE),
+}
 
 # The lists that a program knows by their headers. An unknown header is answered
 # as by the first.

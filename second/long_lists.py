@@ -6,6 +6,7 @@ come, so that no side holds more than a block.
 """
 
 import subprocess
+from collections import Counter
 from contextlib import suppress
 from itertools import zip_longest
 from pathlib import Path
@@ -15,6 +16,7 @@ import damage
 from cases import Generator
 from lists import COMMA, LINE_END, PROGRAM_OF, joined, lines_of
 from messages import first_unlike, said_of_lines, shown, written
+from promises import check_moved
 from samples import drawn_line
 
 SEED = 901
@@ -37,7 +39,10 @@ def block_for(one):
         if i % 10 == 0:
             rest = damage.changed(generator, rest).replace(LINE_END, b"")
         lines.append(b"%s-%d,%s" % (ROUND, i, rest))
-    return joined(lines), joined(map(one.answer_line, lines))
+    dues = list(map(one.answer_line, lines))
+    for line, due in zip(lines, dues):
+        check_moved(one, line, due, Counter())
+    return joined(lines), joined(dues)
 
 
 def in_round(block, turn):

@@ -24,12 +24,23 @@ from certificate import (
     deviation,
     given,
 )
+from lists import (
+    BEFORE,
+    COMMA,
+    RESISTANCE,
+    WRONG_COUNT,
+    WRONG_FIELD,
+    WRONG_LENGTH,
+    code_of,
+    field_of,
+)
 from quantity import (
     DIVISOR_LEAST,
     RATIO_MOST,
     RATIO_ONE,
     READING_LEAST,
     RESISTANCE_MOST,
+    RESISTANCE_MOST_BEFORE,
     UNITS_ONE,
     Refused,
 )
@@ -46,6 +57,9 @@ class Survey:
         self.orders = Counter()
         # Refusals of records, with the cell each was for.
         self.cells = Counter()
+        # Lines whose answer moved with the limits of R and R0: the list, the number
+        # given before, and the number given now.
+        self.moved = Counter()
         # Demand 3 on each answered scale reading: the largest excess over the
         # result at the step answered, and under it at the next.
         self.over = None
@@ -60,6 +74,7 @@ class Survey:
         self.seen += other.seen
         self.orders += other.orders
         self.cells += other.cells
+        self.moved += other.moved
         if other.over is not None:
             self.note_excesses(other.over, other.under)
 
@@ -551,3 +566,39 @@ def check_tolerance(letter, bath, r, r0, answer, survey):
     if passes != (abs(error) <= whole_limit(letter, bath)):
         raise CheckFailed(f"tolerance {asked}: error {error} is misjudged")
     survey.seen[chr(letter), "pass" if passes else "fail"] += 1
+
+
+# Lines whose answer moved with the limits of R and R0, request 9.
+
+MAY_MOVE = (1, WRONG_FIELD)
+NEVER_MOVE = (WRONG_LENGTH, WRONG_COUNT)
+
+
+def over_before(one, line):
+    """Whether some R or R0 of a line is a number over the most before."""
+    fields = zip(one.kinds, line.split(COMMA))
+    numbers = [field for kind, field in fields if kind == RESISTANCE]
+    return any(n.isdigit() and int(n) > RESISTANCE_MOST_BEFORE for n in numbers)
+
+
+def may_move(one, line, before, due):
+    """Whether a line may have got the one answer before and another now: a refusal
+    by 1 or 14 then, for an R or R0 over the most of then. 14 may stay with a later
+    field, and no line has become too long or miscounted."""
+    was, now = code_of(before), code_of(due)
+    if was not in MAY_MOVE or now in NEVER_MOVE or not over_before(one, line):
+        return False
+    return was != now or field_of(before) < field_of(due)
+
+
+def check_moved(one, line, due, moved):
+    """That the answer is what it was by the limits of R and R0 before, or that it may
+    have moved; such lines are counted."""
+    if one not in BEFORE:
+        return
+    before = BEFORE[one].answer_line(line)
+    if before == due:
+        return
+    if not may_move(one, line, before, due):
+        raise CheckFailed(f"{line} of {one.name} gave {before}, and gives {due}")
+    moved[one.name, code_of(before), code_of(due)] += 1

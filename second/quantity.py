@@ -9,7 +9,10 @@ KELVIN_OFFSET = 2_731_500
 
 READING_LEAST = 1
 DIVISOR_LEAST = 10**8
-RESISTANCE_MOST = 10**12
+RESISTANCE_MOST = 10**13
+
+# The most before request 9. With it only refusals by 1, and by 14 in lists, moved.
+RESISTANCE_MOST_BEFORE = 10**12
 
 RATIO_ONE = 10**9
 RATIO_MOST = 4_400_000_000
@@ -33,11 +36,11 @@ def quotient_down(z, d):
     return z // d
 
 
-def within_limits(r, r0):
+def within_limits(r, r0, most=RESISTANCE_MOST):
     """Whether a reading R and a divisor R0 are inside their limits."""
-    if not READING_LEAST <= r <= RESISTANCE_MOST:
+    if not READING_LEAST <= r <= most:
         return False
-    return DIVISOR_LEAST <= r0 <= RESISTANCE_MOST
+    return DIVISOR_LEAST <= r0 <= most
 
 
 def divided(r, r0):
@@ -45,9 +48,9 @@ def divided(r, r0):
     return quotient_down(r * RATIO_ONE, r0)
 
 
-def ratio(r, r0):
+def ratio(r, r0, most=RESISTANCE_MOST):
     """W = R/R0 in units of 10^-9, or Refused 1, then 2."""
-    if not within_limits(r, r0):
+    if not within_limits(r, r0, most):
         raise Refused(1)
     w = divided(r, r0)
     # "Ratio W ... rounded down, at most 4.4": the limit is put to the rounded W.

@@ -11,7 +11,14 @@ from fractions import Fraction
 import curve
 from cases import CheckFailed
 from certificate import SUBRANGES, given, product, working_deviation
-from quantity import RATIO_MOST, RATIO_ONE, UNITS_ONE, Refused, ratio
+from quantity import (
+    RATIO_MOST,
+    RATIO_ONE,
+    RESISTANCE_MOST,
+    UNITS_ONE,
+    Refused,
+    ratio,
+)
 from reference import inverse, working
 
 CURVE = "curve"
@@ -80,10 +87,10 @@ def _scale_step(certificate, w):
     return inverse(wr)
 
 
-def read(name, a, b, c, d, wal, r, r0):
+def read(name, a, b, c, d, wal, r, r0, most=RESISTANCE_MOST):
     """The law and the step of a reading, or Refused: 3, 7, 1, 2, 8, 9."""
     certificate = given(name, a, b, c, d, wal)
-    w = ratio(r, r0)
+    w = ratio(r, r0, most)
     if name == CURVE:
         return name, curve.read(w)
     return name, _scale_step(certificate, w)
@@ -117,6 +124,6 @@ def forward(name, a, b, c, d, wal, step):
     return name, _least_ratio(certificate, working(step))
 
 
-def tolerance(letter, bath, r, r0):
+def tolerance(letter, bath, r, r0, most=RESISTANCE_MOST):
     """The law, always the curve, whether the class allows the error, and it."""
-    return CURVE, *curve.tolerance(letter, bath, r, r0)
+    return CURVE, *curve.tolerance(letter, bath, r, r0, most)

@@ -16,7 +16,10 @@ from draws import (
     around,
     by_ohms,
     given_for,
+    least_by,
     least_ratio,
+    most_divisor,
+    near_kilohm,
     only_used,
     past_most,
     places_for,
@@ -26,11 +29,19 @@ from draws import (
     sound_wal,
     step_for,
     target_for,
+    widest,
 )
 from family import Family, Line, for_each
 from lists import FORWARD, READINGS
 from promises import outcome
-from quantity import DIVISOR_LEAST, RATIO_MOST, RATIO_ONE, RESISTANCE_MOST, UNITS_ONE
+from quantity import (
+    DIVISOR_LEAST,
+    RATIO_MOST,
+    RATIO_ONE,
+    RESISTANCE_MOST,
+    RESISTANCE_MOST_BEFORE,
+    UNITS_ONE,
+)
 from reading import CURVE, TOPS, bounds, forward, silver_term, wr_at
 from reference import CENTRE, exact, working
 
@@ -41,6 +52,8 @@ BACK_PART = 25
 BACK_DIVISOR = BACK_PART * RATIO_ONE
 
 WORKING_ERROR = 9  # units; the working value lies nearer than this
+
+ZEROS = (0, 0, 0, 0, 0)
 
 
 def reading_line(law, places, r, r0, answer):
@@ -70,15 +83,17 @@ def pair_about_most(generator):
 
 
 def limits_case(generator, i, survey):
-    """Each limit of R with each of R0 by each law; then any, and about 4.4."""
+    """Each limit of R with each of R0 by each law; then any up to the most, now and
+    before, and about 4.4."""
     law, places = sound_for(generator)
     if i < len(LAWS) * len(EDGE_PAIRS):
         law = LAWS[i % len(LAWS)]
         places = places_for(generator, law)
         r, r0 = EDGE_PAIRS[i // len(LAWS)]
     elif i % 2 == 0:
-        r = generator.under(RESISTANCE_MOST + 2)
-        r0 = generator.under(RESISTANCE_MOST + 2)
+        most = RESISTANCE_MOST if i % 4 == 0 else RESISTANCE_MOST_BEFORE
+        r = generator.under(most + 2)
+        r0 = generator.under(most + 2)
     else:
         r, r0 = pair_about_most(generator)
     return [read(law, places, r, r0, survey)[1]]
@@ -100,20 +115,57 @@ def read_at(law, places, r, r0, step, survey):
     return line
 
 
-def ratio_case(generator, i, survey):
-    """The least R of a step, by any divisor, and one nanoohm less."""
-    law = LAWS[i % len(LAWS)]
-    places = places_for(generator, law)
+def edge_or_any(generator, law):
+    """A step at an end of the law or past its last, or any."""
     first, last = bounds(law)
     edges = (first, last + 1, last, first + 1)
     kind = generator.under(10)
     free = first + generator.under(last - first + 2)
-    step = edges[kind] if kind < len(edges) else free
-    r, r0 = resistances(generator, least_ratio(law, places, step))
+    return edges[kind] if kind < len(edges) else free
+
+
+def about_step(law, places, step, r, r0, survey):
+    """The lines of a step's least R, and of one nanoohm less."""
     return [
         read_at(law, places, r, r0, step, survey),
         read_at(law, places, r - 1, r0, step - 1, survey),
     ]
+
+
+def ratio_case(generator, i, survey):
+    """The least R of a step, by any divisor, and one nanoohm less."""
+    law = LAWS[i % len(LAWS)]
+    places = places_for(generator, law)
+    step = edge_or_any(generator, law)
+    r, r0 = resistances(generator, least_ratio(law, places, step))
+    return about_step(law, places, step, r, r0, survey)
+
+
+# Large resistances.
+
+# What a Pt1000 is mostly read at, in steps: from -40 °C to 100 °C.
+USUAL_FIRST = -400000
+USUAL_LAST = 1000000
+
+
+def kilohm_case(generator, i, survey):
+    """The least R of a step, and one nanoohm less, of a Pt1000; of three cases one is
+    by any law with the largest divisor, and also with R or R0 the most."""
+    if i % 3 == 0:
+        return widest_lines(generator, LAWS[i // 3 % len(LAWS)], survey)
+    usual = USUAL_FIRST + generator.under(USUAL_LAST - USUAL_FIRST + 1)
+    step = usual if i % 3 == 1 else edge_or_any(generator, CURVE)
+    r, r0 = least_by(least_ratio(CURVE, ZEROS, step), near_kilohm(generator))
+    return about_step(CURVE, ZEROS, step, r, r0, survey)
+
+
+def widest_lines(generator, law, survey):
+    places = places_for(generator, law)
+    step = edge_or_any(generator, law)
+    w = least_ratio(law, places, step)
+    r, r0 = least_by(w, most_divisor(w))
+    lines = about_step(law, places, step, r, r0, survey)
+    return [*lines, read_at(law, places, *widest(w), step, survey)]
 
 
 # The working value.
@@ -243,9 +295,6 @@ def read_case(generator, i, survey):
     return [line]
 
 
-ZEROS = (0, 0, 0, 0, 0)
-
-
 def curve_ratio(generator, i):
     if i < len(CURVE_EDGES):
         return CURVE_EDGES[i]
@@ -367,13 +416,14 @@ def given_case(generator, i, survey):
 def order_case(generator, i, survey):
     """A certificate, R and R0, each of them sound or not."""
     name, places = given_for(generator)
-    edges = (0, RESISTANCE_MOST, RESISTANCE_MOST + 1)
+    most = (RESISTANCE_MOST, RESISTANCE_MOST_BEFORE)[i % 2]
+    edges = (0, most, most + 1)
     kind = generator.under(6)
-    free = generator.under(2 * RESISTANCE_MOST)
+    free = generator.under(2 * most)
     r = edges[kind] if kind < 3 else free
-    edges = (DIVISOR_LEAST - 1, DIVISOR_LEAST, RESISTANCE_MOST + 1)
+    edges = (DIVISOR_LEAST - 1, DIVISOR_LEAST, most + 1)
     kind = generator.under(6)
-    free = generator.under(RESISTANCE_MOST)
+    free = generator.under(most)
     r0 = edges[kind] if kind < 3 else free
     return [read(name, places, r, r0, survey)[1]]
 
@@ -398,6 +448,7 @@ FAMILIES = (
         by_outcome=True,
     ),
     Family("ratio", 702, 6000, ratio_case, for_each(LAWS, ANSWERED, 50)),
+    Family("pt1000", 714, 3000, kilohm_case, for_each(LAWS, ANSWERED, 5)),
     Family("working", 703, 10000, working_case, for_each(NAMES, ANSWERED, 20)),
     Family("read", 704, 14000, read_case, READ_LEAST),
     Family("curve", 705, 12000, curve_case, for_each((CURVE,), (*ANSWERED, 2), 1)),

@@ -10,6 +10,7 @@ from cases import CheckFailed
 from certificate import (
     CELLS,
     COEFFICIENT_MOST,
+    NO_RESISTANCES,
     SUBRANGES,
     WR,
     certify,
@@ -20,19 +21,31 @@ from draws import (
     DIVISORS,
     EDGE_R,
     EDGE_R0,
+    KILOHM,
     LARGEST_RESISTANCE,
+    any_divisor,
     around,
+    least_by,
+    most_divisor,
+    near_kilohm,
     only_used,
     past_most,
     record_for,
     sensor,
     spoil_once,
+    widest,
     word_for,
 )
 from family import Family, Line, for_each
 from lists import ID_MOST, LINE_MOST, RATIOS, RESISTANCES, line_of
 from promises import Survey, outcome_and_cell
-from quantity import DIVISOR_LEAST, RATIO_ONE, RESISTANCE_MOST, UNITS_ONE
+from quantity import (
+    DIVISOR_LEAST,
+    RATIO_ONE,
+    RESISTANCE_MOST,
+    RESISTANCE_MOST_BEFORE,
+    UNITS_ONE,
+)
 
 NAMES = tuple(SUBRANGES)
 
@@ -178,23 +191,27 @@ def measured(name, pairs, survey):
     return Line(RESISTANCES, (name, *numbers), result)
 
 
-def pair_for(generator, w):
+def pair_by(generator, w, r0):
     """R and R0 of a cell: the least R with this ratio, the largest, or between.
 
     By a divisor under 1 ohm it can be some units more.
     """
-    if w == 0:
-        return 0, 0
-    most = min(RESISTANCE_MOST, RESISTANCE_MOST * RATIO_ONE // (w + 1))
-    kind = generator.under(8)
-    in_use = DIVISORS[generator.under(len(DIVISORS))]
-    any_of = DIVISOR_LEAST + generator.under(most - DIVISOR_LEAST + 1)
-    fine = RATIO_ONE + generator.under(100 * RATIO_ONE)
-    r0 = any_of if kind == 0 else in_use if kind < 4 else fine
-    least = -(-w * r0 // RATIO_ONE)
-    count = max(1, -(-(w + 1) * r0 // RATIO_ONE) - least)
+    least, _ = least_by(w, r0)
+    past, _ = least_by(w + 1, r0)
+    count = max(1, past - least)
     between = generator.under(count)
     return least + (0, count - 1, between)[generator.under(3)], r0
+
+
+def pair_for(generator, w):
+    """R and R0 of a cell, by any divisor, one in use or a fine one."""
+    if w == 0:
+        return NO_RESISTANCES
+    kind = generator.under(8)
+    in_use = DIVISORS[generator.under(len(DIVISORS))]
+    any_of = any_divisor(generator, most_divisor(w + 1))
+    fine = RATIO_ONE + generator.under(100 * RATIO_ONE)
+    return pair_by(generator, w, any_of if kind == 0 else in_use if kind < 4 else fine)
 
 
 def pairs_for(generator, record):
@@ -209,23 +226,34 @@ def measured_case(name):
     return case
 
 
-# A cell's R and R0: one of them 0, at and past each limit, a ratio that is
-# rounded down to 0 and the least that is not, and about 4.4.
+def edges_at(most):
+    """R and R0 at and past the most, and a ratio that is rounded down to 0 and the
+    least that is not."""
+    return (
+        (most, DIVISOR_LEAST),
+        (most, most),
+        (most + 1, most),
+        (most, most + 1),
+        (most + 1, DIVISOR_LEAST),
+        (1, most),
+        ((most - 1) // RATIO_ONE, most),
+        (most // RATIO_ONE, most),
+    )
+
+
+ABOUT_MOST = (DIVISOR_LEAST, 25 * 10**9, 2 * 10**11, 2 * 10**12)
+
+# A cell's R and R0: one of them 0, at and past each limit, now and before, and about
+# 4.4.
 EDGES = (
     *((0, r0) for r0 in EDGE_R0[1:]),
     *((r, 0) for r in EDGE_R[1:]),
     (1, DIVISOR_LEAST - 1),
     (1, DIVISOR_LEAST),
-    (RESISTANCE_MOST, DIVISOR_LEAST),
-    (RESISTANCE_MOST, RESISTANCE_MOST),
-    (RESISTANCE_MOST + 1, RESISTANCE_MOST),
-    (RESISTANCE_MOST, RESISTANCE_MOST + 1),
-    (RESISTANCE_MOST + 1, DIVISOR_LEAST),
-    (1, RESISTANCE_MOST),
-    ((RESISTANCE_MOST - 1) // RATIO_ONE, RESISTANCE_MOST),
-    (RESISTANCE_MOST // RATIO_ONE, RESISTANCE_MOST),
-    *((past_most(r0) - 1, r0) for r0 in (DIVISOR_LEAST, 25 * 10**9, 2 * 10**11)),
-    *((past_most(r0), r0) for r0 in (DIVISOR_LEAST, 25 * 10**9, 2 * 10**11)),
+    *edges_at(RESISTANCE_MOST),
+    *edges_at(RESISTANCE_MOST_BEFORE),
+    *((past_most(r0) - 1, r0) for r0 in ABOUT_MOST),
+    *((past_most(r0), r0) for r0 in ABOUT_MOST),
 )
 
 
@@ -243,6 +271,28 @@ def pairs_case(generator, i, survey):
     return [measured(name, pairs, survey)]
 
 
+# Large resistances.
+
+
+def kilohm_case(generator, i, survey):
+    """A record by about 1 kΩ; of four one has R or R0 the most in some cells, and one
+    in all. Cells without use are left out, so that the line is not too long."""
+    name = NAMES[i % len(NAMES)]
+    wanted = {*SUBRANGES[name], "Hg", "Ga"}
+    record = record_for(generator)
+    r0 = near_kilohm(generator)
+    most_in = (0, 0, 1, 4)[generator.under(4)]
+    pairs = {}
+    for cell in CELLS:
+        if cell not in wanted or record[cell] == 0:
+            pairs[cell] = NO_RESISTANCES
+        elif generator.under(4) < most_in:
+            pairs[cell] = widest(record[cell])
+        else:
+            pairs[cell] = pair_by(generator, record[cell], r0)
+    return [measured(name, pairs, survey)]
+
+
 # Divisors by which R has 12 digits in each cell.
 WIDE_LEAST = 119 * 10**9
 WIDE_MOST = 233 * 10**9
@@ -253,13 +303,14 @@ def wide_pairs(generator):
     pairs = {}
     for cell, w in sensor(generator).items():
         r0 = WIDE_LEAST + generator.under(WIDE_MOST - WIDE_LEAST)
-        pairs[cell] = (-(-w * r0 // RATIO_ONE), r0)
+        pairs[cell] = least_by(w, r0)
     return pairs
 
 
 def long_case(generator, i, survey):
     """A record whose line has up to 200 bytes or some more, by the length of its
-    id, of its name, or of numbers past their limits; each field keeps its rule."""
+    id, of its name, of numbers with a digit more, or of such as are past their
+    limits; each field keeps its rule."""
     pairs = wide_pairs(generator)
     kind = generator.under(4)
     word = word_for(generator)
@@ -269,6 +320,9 @@ def long_case(generator, i, survey):
         cell = CELLS[generator.under(len(CELLS))]
         if kind == 2:
             pairs[cell] = (LARGEST_RESISTANCE, LARGEST_RESISTANCE - i)
+        r, r0 = pairs[cell]
+        if kind == 3 and r < KILOHM:
+            pairs[cell] = (10 * r, 10 * r0)
     line = measured(name, pairs, Survey())._replace(name=f"{i:016}"[-size:])
     width = len(line_of(line.name, *line.values))
     survey.seen["bytes", min(max(width, LINE_MOST - 4), LINE_MOST + 5)] += 1
@@ -310,6 +364,8 @@ FITS_LEAST = {
     **{"7 by a coefficient": 100, 6: 0, 7: 0},
 }
 
+KILOHM_LEAST = {**dict.fromkeys(NAMES, 20), **RECORD_LEAST}
+
 LONG_LEAST = {
     **{("bytes", width): 5 for width in range(LINE_MOST - 4, LINE_MOST + 6)},
     **for_each(("too long", "not too long"), ("answered", 1, 3), 10),
@@ -328,6 +384,7 @@ FAMILIES = (
     Family("named", 741, 2000, named_case, NAMED_LEAST),
     Family("faults", 742, 4000, faults_case, FAULTS_LEAST),
     Family("pairs", 743, 4000, pairs_case, PAIRS_LEAST),
+    Family("kilohms", 746, 3000, kilohm_case, KILOHM_LEAST),
     Family("fits", 744, 720, fits_case, FITS_LEAST),
     Family("long", 745, 2000, long_case, LONG_LEAST),
 )

@@ -68,6 +68,7 @@ def exact(step):
     return value
 
 
+@lru_cache(maxsize=1024)
 def inverse(value):
     """The largest step of the scale whose working value is not above `value`.
 

@@ -1,12 +1,32 @@
-"""Good lines of each list: two that are answered, written by hand, and drawn ones.
+"""Good lines of each list: two that are answered, written by hand, and drawn ones;
+and of a list that holds resistances one with the largest.
 
 None has 180 bytes.
 """
 
+from collections import Counter
+
 from cases import CheckFailed
 from certificate import CELLS, LAWS, NO_RESISTANCES, SUBRANGES, certify
-from draws import DIVISORS, least_ratio, name_for, places_for, resistances, sensor
-from lists import FORWARD, RATIOS, READINGS, RESISTANCES, TOLERANCE, line_of
+from draws import (
+    DIVISORS,
+    least_by,
+    least_ratio,
+    name_for,
+    places_for,
+    resistances,
+    sensor,
+)
+from lists import (
+    FORWARD,
+    RATIOS,
+    READINGS,
+    RESISTANCES,
+    TOLERANCE,
+    code_of,
+    line_of,
+)
+from promises import check_moved
 from quantity import RATIO_ONE, Refused
 from reading import CURVE, bounds
 
@@ -25,6 +45,12 @@ NEXT = {
     b",0,0,0,0,0,0,0,0",
     FORWARD: b"X2,sn,2319280,-82289596,47596138,0,0,0",
     TOLERANCE: b"S2,B,-2000000,18520080000,100000000000",
+}
+WIDEST = {
+    READINGS: b"F3,curve,10000000000000,7219929894480,0,0,0,0,0",
+    RESISTANCES: b"R3,in,0,0,10000000000000,8943432778731,10000000000000"
+    b",6212330562954,0,0,0,0,0,0,0,0",
+    TOLERANCE: b"S3,B,0,9999999999999,10000000000000",
 }
 
 
@@ -51,8 +77,7 @@ def drawn_tolerance(generator):
     letter = "AB"[generator.under(2)]
     bath = generator.under(8500001) - 2000000
     w = least_ratio(CURVE, None, bath) + generator.under(1000)
-    r0 = DIVISORS[generator.under(len(DIVISORS))]
-    return letter, bath, -(-w * r0 // RATIO_ONE), r0
+    return letter, bath, *least_by(w, DIVISORS[generator.under(len(DIVISORS))])
 
 
 def drawn_record(generator):
@@ -75,11 +100,12 @@ def drawn_ratios(generator):
 
 def drawn_resistances(generator):
     name, record = drawn_record(generator)
+    # By 25 ohm or 1000, so that the ratio is the one drawn.
+    ohms = (25, 1000)[generator.under(2)]
     numbers = []
     for cell in CELLS:
-        # By 25 ohm, so that the ratio is the one drawn.
-        r = 25 * record[cell] if cell in record else 0
-        numbers += (r, 25 * RATIO_ONE) if r else NO_RESISTANCES
+        r = ohms * record[cell] if cell in record else 0
+        numbers += (r, ohms * RATIO_ONE) if r else NO_RESISTANCES
     return name, *numbers
 
 
@@ -96,7 +122,9 @@ def drawn_line(one, generator):
     """A drawn line of a list, which is answered."""
     while True:
         line = line_of(name_for(generator), *DRAWN[one](generator))
-        if one.answer_line(line).endswith(b",0"):
+        answered = one.answer_line(line)
+        if code_of(answered) == 0:
+            check_moved(one, line, answered, Counter())
             return line
 
 

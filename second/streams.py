@@ -25,9 +25,10 @@ import damage
 import families
 import long_lists
 from cases import CheckFailed, Generator
-from family import check_family, code_of, part, parts
+from family import check_family, part, parts
 from inputs import example, listed
 from lists import (
+    BEFORE,
     LINE_END,
     LISTS,
     PROGRAM_OF,
@@ -40,12 +41,13 @@ from lists import (
     WRONG_LINE,
     LineFault,
     answer,
+    code_of,
     joined,
     lines_of,
 )
 from messages import SAID_MOST, first_unlike, said, shown
-from promises import Survey
-from samples import GOOD, NEXT, drawn_lines
+from promises import Survey, check_moved
+from samples import GOOD, NEXT, WIDEST, drawn_lines
 
 USAGE = """\
 usage: python3 second/streams.py START FOLDER
@@ -163,7 +165,7 @@ def damaged_pieces(one, generator):
         if one.fault_of(kept) is not None:
             raise CheckFailed(f"{one.name}: {kept} is ill-formed")
         yield kept + LINE_END
-    for good in (GOOD[one], NEXT[one], line()):
+    for good in (GOOD[one], NEXT[one], WIDEST.get(one, line()), line()):
         yield from damage.flips(good + LINE_END)
         for damaged in damage.field_changes(good):
             yield damaged + LINE_END
@@ -197,25 +199,38 @@ def check_damages(found, one, count, dues):
             found.fail(f"{number} is given {codes[number]} times")
 
 
+# The numbers that damaged lines moved from and to: 14 also from field to field.
+MOVES = ((1, 0), (WRONG_FIELD, 0), (WRONG_FIELD, 1), (WRONG_FIELD, WRONG_FIELD))
+
+
+def check_moves(found, one):
+    """That lines of a list that holds resistances moved with their limits."""
+    for was, now in MOVES if one in BEFORE else ():
+        if found.survey.moved[one.name, was, now] == 0:
+            found.fail(f"no line moved from {was} to {now}")
+
+
 def damage_job(programs, name):
     """One list with every damage in it, a good line after each."""
     one = LISTS[name]
     found = Found(f"damaged {name}")
     generator = Generator(DAMAGE_SEED)
-    good = drawn_lines(one, generator, DRAWN_LINES)
     try:
+        good = drawn_lines(one, generator, DRAWN_LINES)
         pieces = [p + good() + LINE_END for p in damaged_pieces(one, generator)]
         data = listed(one) + b"".join(pieces)
         _, *lines = lines_of(data)
-        for line in lines:
+        _, *dues = lines_of(answer(PROGRAM_OF[one], data))
+        for line, due in zip(lines, dues):
             damage.check_words(one, line)
+            check_moved(one, line, due, found.survey.moved)
     except CheckFailed as failed:
         found.fail(f"check failed: {failed}")
         return found
-    _, *dues = lines_of(answer(PROGRAM_OF[one], data))
     compare(found, one, lines, dues, programs.run(PROGRAM_OF[one], data, found))
     run_again(programs, one, lines, found)
     check_damages(found, one, len(pieces), dues)
+    check_moves(found, one)
     return found
 
 
@@ -248,8 +263,12 @@ def long_job(programs, name, count):
     """A list of so many lines through a pipe; it counts as one line."""
     one = LISTS[name]
     found = Found(f"long {name}")
-    for what in long_lists.run(programs.command(PROGRAM_OF[one]), one, count, LIMIT):
-        found.fail(what)
+    command = programs.command(PROGRAM_OF[one])
+    try:
+        for what in long_lists.run(command, one, count, LIMIT):
+            found.fail(what)
+    except CheckFailed as failed:
+        found.fail(f"check failed: {failed}")
     if found.failed == 0:
         found.passed += 1
     return found
@@ -301,15 +320,14 @@ class Sum:
 
     def check_met(self):
         """That the families met everything."""
-        orders = Counter()
-        cells = Counter()
+        met = Survey()
         for family in families.FAMILIES:
             survey = self.surveys[family.name]
             self.check(check_family, family, survey.seen)
-            orders += survey.orders
-            cells += survey.cells
-        self.check(families.check_orders, orders)
-        self.check(families.check_cells, cells)
+            met.add(survey)
+        self.check(families.check_orders, met.orders)
+        self.check(families.check_cells, met.cells)
+        self.check(families.check_moved, met.moved)
         self.check(families.check_codes, self.codes)
 
 

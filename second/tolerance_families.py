@@ -2,11 +2,16 @@
 
 import curve
 import promises
-from draws import CURVE_EDGES, EDGE_PAIRS, LETTERS, around
+from draws import CURVE_EDGES, EDGE_PAIRS, LETTERS, around, widest
 from family import Family, Line, for_each
 from lists import TOLERANCE
 from promises import outcome, whole_limit
-from quantity import DIVISOR_LEAST, RATIO_ONE, RESISTANCE_MOST
+from quantity import (
+    DIVISOR_LEAST,
+    RATIO_ONE,
+    RESISTANCE_MOST,
+    RESISTANCE_MOST_BEFORE,
+)
 from reading import tolerance
 
 
@@ -21,8 +26,8 @@ def judged(letter, bath, r, r0, survey):
     return Line(TOLERANCE, (letter, bath, r, r0), result)
 
 
-# Bench card 10 and its like: each class at these baths, an error of the whole
-# limit and of one step more, above and below.
+# Bench card 10 and its like, by 100 ohm and by 1000: each class at these baths, an
+# error of the whole limit and of one step more, above and below.
 LIMIT_BATHS = (0, -2000000, 6500000, 8500000)
 LIMIT_CASES = 2 * len(LIMIT_BATHS) * 2 * 2
 
@@ -80,9 +85,14 @@ EDGE_DIVISOR = (
     DIVISOR_LEAST,
     25000000000,
     100000000000,
+    RESISTANCE_MOST_BEFORE,
+    RESISTANCE_MOST_BEFORE + 1,
     RESISTANCE_MOST,
     RESISTANCE_MOST + 1,
 )
+
+# R0 of a Pt100 and of a Pt1000.
+OHMS = (100, 1000)
 
 
 def unaimed(generator):
@@ -90,21 +100,25 @@ def unaimed(generator):
     w = CURVE_EDGES[generator.under(len(CURVE_EDGES))]
     r = generator.under(RESISTANCE_MOST + 2)
     r0 = EDGE_DIVISOR[generator.under(len(EDGE_DIVISOR))]
-    return (100 * w, 100 * RATIO_ONE) if generator.under(3) == 0 else (r, r0)
+    kind = generator.under(6)
+    if kind < 2:
+        return OHMS[kind] * w, OHMS[kind] * RATIO_ONE
+    return (widest(w), (r, r0), (r // 10, r0), (r // 100, r0))[kind - 2]
 
 
 def tolerance_case(generator, i, survey):
-    if i < LIMIT_CASES:
-        letter, bath, aim = limit_case(i)
+    ohms = OHMS[i // LIMIT_CASES % 2]
+    if i < 2 * LIMIT_CASES:
+        letter, bath, aim = limit_case(i % LIMIT_CASES)
         # A unit more than the aim's ratio reads the aim itself.
-        more = 100
+        more = ohms
     else:
         letter = letter_for(generator)
         bath = bath_for(generator)
         aim = aim_for(generator, letter, bath)
-        more = generator.under(100)
+        more = generator.under(ohms)
     if aim is not None and curve.FIRST <= aim <= curve.LAST:
-        r, r0 = curve.forward(aim) * 100 + more, 100 * RATIO_ONE
+        r, r0 = curve.forward(aim) * ohms + more, ohms * RATIO_ONE
     else:
         r, r0 = unaimed(generator)
     return [judged(letter, bath, r, r0, survey)]
@@ -123,7 +137,8 @@ def classes_case(generator, i, survey):
         return [judged(letter, 0, *EDGE_PAIRS[at], survey)]
     letter = "ABABABCDa"[generator.under(9)]
     bath = generator.under(11000000) - 2200000
-    r, r0 = generator.under(450000000000), 100 * RATIO_ONE
+    ohms = OHMS[at % 2]
+    r, r0 = generator.under(4500000000 * ohms), ohms * RATIO_ONE
     if generator.under(4) == 0:
         r, r0 = EDGE_PAIRS[generator.under(len(EDGE_PAIRS))]
     return [judged(letter, bath, r, r0, survey)]

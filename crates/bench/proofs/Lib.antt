@@ -3,3 +3,4 @@ pub mod Made
 pub mod Rows
 pub mod Unique
 pub mod Rooms
+pub mod Widening

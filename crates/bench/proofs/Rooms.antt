@@ -40,6 +40,7 @@ use Rattle.text.specs.Decimal.{decimal}
 use Rattle.text.specs.Columns.{Value, letterAt, integerAt, countAt}
 use Rattle.text.proofs.Decimals.{few-digits}
 use Rattle.row.specs.Places.{givenAt}
+use Rattle.row.specs.Limits.{limits}
 use Rattle.row.specs.Records.{recordFrom}
 use Rattle.row.specs.Resistances.{resistancesFrom}
 use Rattle.line.specs.Writing.{commaed}
@@ -91,7 +92,7 @@ small-resistances row =
     (λ s n a e. places-short s (ratiosOf cells) a (passed (outside cells) 1 (recordOf s (ratiosOf cells) .tests) (omega arith) e .1))
 
 pub resistances-kept : LinesKept resistances certificateRoom
-resistances-kept = lines-kept resistances placesBytes resistances-row small-resistances (names-short _ name-short _ _ _ _) (omega arith) (omega arith)
+resistances-kept = lines-kept resistances placesBytes (resistances-row limits) small-resistances (names-short _ name-short _ _ _ _) (omega arith) (omega arith)
 
 -- ---- steps taken forward
 ratio-short : (given : Given) (step : ℤ) (law : Law) (a : LawAndRatio) → numberGiven (forwardCertificate (certificateOf law given) step .tests) ≡ 0
@@ -143,4 +144,4 @@ small-test row =
     (λ class n. result-short (integerAt 2 row) (countAt 3 row) (countAt 4 row) class (class-top letter class n))
 
 pub results-kept : LinesKept tolerances resultRoom
-results-kept = lines-kept tolerances resultBytes test-row small-test (names-short _ letter-short _ _ _ _) (omega arith) (omega arith)
+results-kept = lines-kept tolerances resultBytes (test-row limits) small-test (names-short _ letter-short _ _ _ _) (omega arith) (omega arith)

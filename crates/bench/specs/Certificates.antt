@@ -9,10 +9,11 @@ use Rattle.certificate.specs.declared.soundness.CertificateAnswer.{CertificateA
 use Rattle.certificate.specs.declared.soundness.CertificateAnswer.the-variants.{Certificate, Refused}
 use Rattle.certificate.specs.Certificate.{LawAndPlaces}
 use Rattle.certificate.specs.Record.{recordRule}
-use Rattle.certificate.specs.Resistances.{resistancesRule}
+use Rattle.certificate.specs.Resistances.{resistancesRuleUpTo}
 use Rattle.quantity.specs.Outcomes.{Rule}
 use Rattle.text.specs.Decimal.{decimal, signedDecimal}
 use Rattle.text.specs.Columns.{Column, Value}
+use Rattle.row.specs.Limits.{Limits, limits}
 use Rattle.row.specs.Records as ratios
 use Rattle.row.specs.Resistances as pairs
 use Rattle.line.specs.declared.lent.Placing.{Placing}
@@ -42,8 +43,11 @@ certificates columns rule = record {
 abbrev pub records : Kind
 records = certificates ratios.columns (λ row. recordRule (ratios.recordFrom row))
 
+abbrev pub resistancesUpTo : Limits → Kind
+resistancesUpTo most = certificates (pairs.columnsUpTo (most .digits)) (λ row. resistancesRuleUpTo (most .largest) (pairs.resistancesFrom row))
+
 abbrev pub resistances : Kind
-resistances = certificates pairs.columns (λ row. resistancesRule (pairs.resistancesFrom row))
+resistances = resistancesUpTo limits
 
 -- What an inner function writes of a record's answer, after its names.
 abbrev pub CertificatePlaced : CertificateAnswer → List ℕ → List ℕ → List ℕ → Placing → Type 0

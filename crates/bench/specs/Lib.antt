@@ -3,3 +3,4 @@ pub mod Certificates
 pub mod Forward
 pub mod Tolerances
 pub mod Rooms
+pub mod Promised

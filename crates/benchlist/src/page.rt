@@ -67,7 +67,11 @@ fn field_part(fd: i32) -> bool {
         & put(fd, b"class     A or B\n")
         & put(
             fd,
-            b"hg to ag  ratios in units of 1e-9; resistances in nanoohms\n",
+            b"hg to ag  ratios in units of 1e-9; resistances in nanoohms, as r and r0:\n",
+        )
+        & put(
+            fd,
+            b"          1 to 1e13, that at the water cell or at 0 C 1e8 to 1e13\n",
         )
         & put(
             fd,
@@ -75,12 +79,13 @@ fn field_part(fd: i32) -> bool {
         )
         & put(
             fd,
-            b"Numbers have at most 13 digits and no leading zero; a to d and t may have\n",
+            b"Numbers have at most 13 digits, resistances 14, and no leading zero; a to d\n",
         )
         & put(
             fd,
-            b"a minus, not before 0. A line has at most 200 bytes before its CRLF.\n\n",
+            b"and t may have a minus, not before 0. A line has at most 200 bytes before\n",
         )
+        & put(fd, b"its CRLF.\n\n")
 }
 
 fn order_part(fd: i32) -> bool {

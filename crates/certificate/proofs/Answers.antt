@@ -3,8 +3,10 @@ use mathlib.Core.Path.{_≡_, sym, _∙_, ap}
 use mathlib.Core.Bool.{true, not}
 use mathlib.Core.List.{[]}
 use mathlib.Core.Option.{Option·getD}
+use Prim.Native.Nat.{ℕ}
 use borrow.Author.Tests.{not-false}
 use native.Mathlib.Omega.{arith}
+use Rattle.quantity.specs.Quantities.{largestResistance}
 use Rattle.quantity.specs.Outcomes.{Outcome, numberGiven, Follows}
 use Rattle.quantity.proofs.Outcomes.{one-named, not-answered, one-refusal, passed}
 use Rattle.law.specs.declared.laws.Law.the-variants.{Curve}
@@ -17,7 +19,7 @@ use Rattle.certificate.specs.declared.soundness.CertificateAnswer.{Certi
 use Rattle.certificate.specs.declared.soundness.CertificateAnswer.the-variants as answer
 use Rattle.certificate.specs.Certificate.{LawAndPlaces, noPlaces, held, stated, sound, soundTests, givenBy, givenRule}
 use Rattle.certificate.specs.Record.{recordOf, recordRule}
-use Rattle.certificate.specs.Resistances.{resistancesOf, resistancesRule}
+use Rattle.certificate.specs.Resistances.{resistancesOfUpTo, resistancesRuleUpTo, resistancesRule}
 
 -- a certificate that passes 7 is sound
 pub sound-passed : (k : Certificate) → numberGiven (soundTests k) ≡ 0 → sound k ≡ true
@@ -43,8 +45,8 @@ record-unique ratios = one-named noPlaces (subrangeNamed (ratios .subrange .0)) 
 pub one-of-record : (ratios : Record) (x y : CertificateAnswer) → Follows (recordRule ratios) (stated x) → Follows (recordRule ratios) (stated y) → x ≡ y
 one-of-record ratios x y h i = stated-unique x y (record-unique ratios (stated x) (stated y) h i)
 
-pub resistances-unique : (resistances : Resistances) (o o′ : Outcome LawAndPlaces) → Follows (resistancesRule resistances) o → Follows (resistancesRule resistances) o′ → o ≡ o′
-resistances-unique resistances = one-named noPlaces (subrangeNamed (resistances .subrange .0)) (λ s. resistancesOf s resistances) (λ s a b p q. p ∙ sym q)
+pub resistances-unique : (largest : ℕ) (resistances : Resistances) (o o′ : Outcome LawAndPlaces) → Follows (resistancesRuleUpTo largest resistances) o → Follows (resistancesRuleUpTo largest resistances) o′ → o ≡ o′
+resistances-unique largest resistances = one-named noPlaces (subrangeNamed (resistances .subrange .0)) (λ s. resistancesOfUpTo largest s resistances) (λ s a b p q. p ∙ sym q)
 
 pub one-of-resistances : (resistances : Resistances) (x y : CertificateAnswer) → Follows (resistancesRule resistances) (stated x) → Follows (resistancesRule resistances) (stated y) → x ≡ y
-one-of-resistances resistances x y h i = stated-unique x y (resistances-unique resistances (stated x) (stated y) h i)
+one-of-resistances resistances x y h i = stated-unique x y (resistances-unique largestResistance resistances (stated x) (stated y) h i)

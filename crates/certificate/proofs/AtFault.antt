@@ -24,7 +24,7 @@ use Rattle.certificate.specs.declared.fault.FaultyCell.{FaultyCell}
 use Rattle.certificate.specs.declared.fault.FaultyCell.the-variants.{At, Nowhere}
 use Rattle.certificate.specs.Certificate.{LawAndPlaces, noPlaces}
 use Rattle.certificate.specs.Record.{ratio, measured, isAbove, ratioAbove, isMissing, cellMissing, purityCellMissing, impure, cellDeviates, deviates, fitted, recordOf}
-use Rattle.certificate.specs.Resistances.{cellOutside, outside, ratiosOf, resistancesOf}
+use Rattle.certificate.specs.Resistances.{cellOutside, outsideUpTo, outside, ratiosOf, resistancesOf}
 use Rattle.certificate.specs.AtFault.{breaksPurity, cellFor, atFault, cellForBy, atFaultBy, ofNamed, cellAtFault, cellAtFaultBy, statedCell}
 use Rattle.certificate.specs.Promised.{among, FaultFound, NoneAtFault, FaultFoundBy, NoneAtFaultBy, CoefficientAtFault, CoefficientAtFaultBy}
 use Rattle.certificate.proofs.Firsts.{first-found, none-holds}
@@ -122,7 +122,7 @@ module _ (s : Subrange) (resistances : Resistances) where
   fault-of-ratios inside = rw (inside, never-1 s (ratiosOf resistances))
 
   found-by : among (1 ∷ 2 ∷ 4 ∷ 6 ∷ []) given ≡ true → (p : Cell) × (atFaultBy s resistances ≡ some p)
-  unfolding atFaultBy outside
+  unfolding atFaultBy outsideUpTo
   found-by = by (outside resistances) refl
     where
       by : (out : Bool) → outside resistances ≡ out → among (1 ∷ 2 ∷ 4 ∷ 6 ∷ []) given ≡ true → (p : Cell) × (atFaultBy s resistances ≡ some p)

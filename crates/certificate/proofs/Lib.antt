@@ -6,3 +6,4 @@ pub mod Answers
 pub mod AsRatios
 pub mod Firsts
 pub mod AtFault
+pub mod Widening

@@ -7,6 +7,7 @@ use Prim.Native.Nat.{ℕ}
 use lib.Dec.{eqb}
 use Rattle.whole.specs.Any.{any}
 use Rattle.quantity.specs.Outcomes.{Outcome, answered, Follows}
+use Rattle.quantity.specs.Promised.{Widens}
 use Rattle.law.specs.declared.cell.Cell.{Cell}
 use Rattle.law.specs.declared.subrange.Subrange.{Subrange}
 use Rattle.law.specs.Subranges.{cells, subrangeNamed}
@@ -16,7 +17,7 @@ use Rattle.certificate.specs.declared.resistances.Resistances.{Resistanc
 use Rattle.certificate.specs.declared.soundness.Certificate.{Certificate}
 use Rattle.certificate.specs.Certificate.{sound, givenOf, LawAndPlaces, held, givenRule}
 use Rattle.certificate.specs.Record.{deviates, fitted, recordRule}
-use Rattle.certificate.specs.Resistances.{outside, ratiosOf, resistancesRule}
+use Rattle.certificate.specs.Resistances.{outside, ratiosOf, resistancesRuleUpTo, resistancesRule}
 use Rattle.certificate.specs.AtFault.{cellAtFault, cellAtFaultBy}
 
 -- Every certificate that a record yields is sound.
@@ -46,6 +47,10 @@ abbrev pub ResistancesAccepted : Type 0
 ResistancesAccepted =
     (resistances : Resistances) (k : Certificate) → Follows (resistancesRule resistances) (answered (held k))
     → Follows (givenRule (givenOf k)) (answered (held k))
+
+-- A larger resistance allowed, only what was refused by 1 moves.
+abbrev pub ResistancesWiden : Type 0
+ResistancesWiden = (resistances : Resistances) → Widens (λ largest. resistancesRuleUpTo largest resistances)
 
 -- ---- the cell at fault
 abbrev pub among : List ℕ → ℕ → Bool

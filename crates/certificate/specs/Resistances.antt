@@ -5,7 +5,7 @@ use Prim.Native.Nat.{ℕ}
 use lib.Dec.{eqb}
 use Rattle.whole.specs.Any.{any}
 use Rattle.whole.specs.Choice.{if_then_else_}
-use Rattle.quantity.specs.Quantities.{isReading, isDivisor, ratioOf}
+use Rattle.quantity.specs.Quantities.{largestResistance, isReadingUpTo, isDivisorUpTo, ratioOf}
 use Rattle.quantity.specs.Outcomes.{_gives_, Rule, ifNamed}
 use Rattle.law.specs.declared.cell.Cell.{Cell}
 use Rattle.law.specs.declared.cell.Cell.the-variants as cell
@@ -37,15 +37,24 @@ abbrev pub cellRatio : Pair → ℕ
 cellRatio p = if isGiven p then ratioOf (p .r .0) (p .r0 .0) else 0
 
 -- A cell given whose R or R0 is outside its limits.
+abbrev pub isOutsideUpTo : ℕ → Pair → Bool
+isOutsideUpTo largest p = isGiven p && not (isReadingUpTo largest (p .r .0) && isDivisorUpTo largest (p .r0 .0))
+
 abbrev pub isOutside : Pair → Bool
-isOutside p = isGiven p && not (isReading (p .r .0) && isDivisor (p .r0 .0))
+isOutside = isOutsideUpTo largestResistance
+
+abbrev pub cellOutsideUpTo : ℕ → Resistances → Cell → Bool
+cellOutsideUpTo largest resistances p = isOutsideUpTo largest (pair resistances p)
 
 abbrev pub cellOutside : Resistances → Cell → Bool
-cellOutside resistances p = isOutside (pair resistances p)
+cellOutside = cellOutsideUpTo largestResistance
 
 -- 1: any of the seven is such a cell.
-unfoldable pub outside : Resistances → Bool
-outside resistances = any (cellOutside resistances) allCells
+unfoldable pub outsideUpTo : ℕ → Resistances → Bool
+outsideUpTo largest resistances = any (cellOutsideUpTo largest resistances) allCells
+
+abbrev pub outside : Resistances → Bool
+outside = outsideUpTo largestResistance
 
 -- The record of the cells' ratios, in which one that rounds down to 0 counts as not measured.
 abbrev pub ratiosOf : Resistances → Record
@@ -62,15 +71,21 @@ ratiosOf resistances =
     }
 
 -- Resistances of a known subrange: 1, then the tests of the record of their ratios, 2, 4, 5, 6, 7; else its certificate.
-abbrev pub resistancesOf : Subrange → Resistances → Rule LawAndPlaces
-resistancesOf s resistances =
+abbrev pub resistancesOfUpTo : ℕ → Subrange → Resistances → Rule LawAndPlaces
+resistancesOfUpTo largest s resistances =
     let ofRatios = recordOf s (ratiosOf resistances) in
     record {
-      tests = outside resistances gives 1 ∷ ofRatios .tests;
+      tests = outsideUpTo largest resistances gives 1 ∷ ofRatios .tests;
       zeros = ofRatios .zeros;
       Answer = ofRatios .Answer;
     }
 
+abbrev pub resistancesOf : Subrange → Resistances → Rule LawAndPlaces
+resistancesOf = resistancesOfUpTo largestResistance
+
 -- 3: no subrange has the name that is given; then the other tests.
+abbrev pub resistancesRuleUpTo : ℕ → Resistances → Rule LawAndPlaces
+resistancesRuleUpTo largest resistances = ifNamed noPlaces (subrangeNamed (resistances .subrange .0)) (λ s. resistancesOfUpTo largest s resistances)
+
 abbrev pub resistancesRule : Resistances → Rule LawAndPlaces
-resistancesRule resistances = ifNamed noPlaces (subrangeNamed (resistances .subrange .0)) (λ s. resistancesOf s resistances)
+resistancesRule = resistancesRuleUpTo largestResistance

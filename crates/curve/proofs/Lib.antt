@@ -7,3 +7,4 @@ pub mod Ends
 pub mod Outcomes
 pub mod Back
 pub mod Unique
+pub mod Widening

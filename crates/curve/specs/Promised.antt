@@ -5,10 +5,12 @@ use lib.IntN.{ℤ, pos, _-ℤ_, _*ℤ_}
 use lib.Signed.{_≤ℤ_, _<ℤ_}
 use mathlib.Core.Option.{some}
 use Rattle.quantity.specs.Outcomes.{Outcome, answered, Follows}
+use Rattle.quantity.specs.Promised.{Widens}
 use Rattle.law.specs.declared.laws.Law.the-variants.{Curve}
 use Rattle.law.specs.Answers.{LawAndRatio}
 use Rattle.curve.specs.Curve.{standard, exact, units, first, last, pastLast}
-use Rattle.curve.specs.Ways.{readRatio, forwardStep}
+use Rattle.curve.specs.Ways.{readRatio, readResistancesUpTo, forwardStep}
+use Rattle.curve.specs.Tolerance.{toleranceTestUpTo}
 
 -- The exact ratio in whole numbers is the standard's formula times 10^31, multiplied out.
 abbrev pub ExactIsStandard : Type 0
@@ -29,3 +31,11 @@ pub record ReadBack (step : ℤ) (w : ℕ) : Type 0 where
 
 abbrev pub ForwardReadsBack : Type 0
 ForwardReadsBack = (step : ℤ) (o : Outcome LawAndRatio) → first ≤ℤ step → step ≤ℤ last → Follows (forwardStep step) o → ReadBack step (o .answer .ratio)
+
+-- ---- a larger resistance allowed
+-- Of readings and of tolerance tests, only what was refused by 1 moves.
+abbrev pub CurveWidens : Type 0
+CurveWidens = (r r0 : ℕ) → Widens (λ largest. readResistancesUpTo largest r r0)
+
+abbrev pub ToleranceWidens : Type 0
+ToleranceWidens = (letter : ℕ) (bath : ℤ) (r r0 : ℕ) → Widens (λ largest. toleranceTestUpTo largest letter bath r r0)

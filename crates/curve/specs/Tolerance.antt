@@ -8,10 +8,10 @@ use Prim.Native.Char.{code}
 use lib.Dec.{eqb, leb}
 use lib.IntN.{ℤ, pos, natAbs, _-ℤ_}
 use Rattle.whole.specs.Choice.{if_then_else_}
-use Rattle.quantity.specs.Quantities.{ratioOf}
+use Rattle.quantity.specs.Quantities.{largestResistance, ratioOf}
 use Rattle.quantity.specs.Refusals.{numberOf}
 use Rattle.quantity.specs.Outcomes.{Outcome, answered, refused, Rule, ifNamed}
-use Rattle.quantity.specs.Ratios.{ratioTests}
+use Rattle.quantity.specs.Ratios.{ratioTestsUpTo}
 use Rattle.law.specs.declared.laws.Law.{Law}
 use Rattle.law.specs.declared.laws.Law.the-variants.{Curve}
 use Rattle.law.specs.Ranges.{valueTests, stepTests}
@@ -62,15 +62,21 @@ abbrev pub resultOf : Class → ℤ → ℤ → Result
 resultOf class bath step = record { law = some Curve; passes = allows class bath (step -ℤ bath); error = step -ℤ bath }
 
 -- 8 or 9: a bath outside the class's range; then the reading's 1, 2, 8, 9; else the result of the step that is read.
-abbrev pub testByClass : Class → ℤ → ℕ → ℕ → Rule Result
-testByClass class bath r r0 =
+abbrev pub testByClassUpTo : ℕ → Class → ℤ → ℕ → ℕ → Rule Result
+testByClassUpTo largest class bath r r0 =
     let value = units (ratioOf r r0) in
     record {
-      tests = stepTests first (class .top) bath ++ (ratioTests r r0 ++ valueTests range value);
+      tests = stepTests first (class .top) bath ++ (ratioTestsUpTo largest r r0 ++ valueTests range value);
       zeros = noResult;
       Answer = λ a. (step : ℤ) × range .StepOf value step × (a ≡ resultOf class bath step);
     }
 
+abbrev pub testByClass : Class → ℤ → ℕ → ℕ → Rule Result
+testByClass = testByClassUpTo largestResistance
+
 -- 3: no class has the letter; then the test by its class.
+abbrev pub toleranceTestUpTo : ℕ → ℕ → ℤ → ℕ → ℕ → Rule Result
+toleranceTestUpTo largest letter bath r r0 = ifNamed noResult (classNamed letter) (λ class. testByClassUpTo largest class bath r r0)
+
 abbrev pub toleranceTest : ℕ → ℤ → ℕ → ℕ → Rule Result
-toleranceTest letter bath r r0 = ifNamed noResult (classNamed letter) (λ class. testByClass class bath r r0)
+toleranceTest = toleranceTestUpTo largestResistance

@@ -5,9 +5,9 @@ use Prim.Native.Nat.{ℕ}
 use lib.Dec.{ltb}
 use lib.IntN.{ℤ, pos}
 use Rattle.whole.specs.Floor.{floor}
-use Rattle.quantity.specs.Quantities.{ratioOf, largestRatio}
+use Rattle.quantity.specs.Quantities.{largestResistance, ratioOf, largestRatio}
 use Rattle.quantity.specs.Outcomes.{_gives_, Rule}
-use Rattle.quantity.specs.Ratios.{ratioTests}
+use Rattle.quantity.specs.Ratios.{ratioTestsUpTo}
 use Rattle.law.specs.declared.laws.Law.the-variants.{Curve}
 use Rattle.law.specs.Ranges.{Range, byLargest}
 use Rattle.law.specs.Answers.{LawAndStep, readBy, LawAndRatio, forwardBy}
@@ -22,8 +22,11 @@ abbrev pub readRatio : ℕ → Rule LawAndStep
 readRatio w = readBy (ltb largestRatio w gives 2 ∷ []) Curve range (units w)
 
 -- Of two resistances: 1, 2, then 8, 9, else the step.
+abbrev pub readResistancesUpTo : ℕ → ℕ → ℕ → Rule LawAndStep
+readResistancesUpTo largest r r0 = readBy (ratioTestsUpTo largest r r0) Curve range (units (ratioOf r r0))
+
 abbrev pub readResistances : ℕ → ℕ → Rule LawAndStep
-readResistances r r0 = readBy (ratioTests r r0) Curve range (units (ratioOf r r0))
+readResistances = readResistancesUpTo largestResistance
 
 -- The exact ratio at a step, rounded down to 10^-9.
 abbrev pub RatioAt : ℤ → ℕ → Type 0

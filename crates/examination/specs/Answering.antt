@@ -2,10 +2,11 @@
 use mathlib.Core.Bool.{Bool, not}
 use mathlib.Core.List.{List, [], _∷_}
 use Prim.Native.Nat.{ℕ}
+use Rattle.quantity.specs.Quantities.{largestResistance}
 use Rattle.quantity.specs.Refusals.{numberOf}
 use Rattle.quantity.specs.Outcomes.{Test, _gives_, Rule}
 use Rattle.law.specs.Answers.{LawAndStep, noStep}
-use Rattle.reading.specs.Reading.{readGiven}
+use Rattle.reading.specs.Reading.{readGivenUpTo}
 use Rattle.entry.specs.declared.entry.Entry.{Entry}
 use Rattle.examination.specs.declared.answering.Change.{Change}
 use Rattle.examination.specs.declared.answering.Change.the-variants.{Made, Refused}
@@ -36,11 +37,14 @@ withdrawalTests bad held =
     ∷ []
 
 -- A reading. 23: as above; 20: what is held of the thermometer is not live; then what its certificate reads, by its own law.
-abbrev pub readEntry : Bool → Entry → ℕ → ℕ → Rule LawAndStep
-readEntry bad held r r0 =
-    let rule = readGiven (held .certificate) r r0 in
+abbrev pub readEntryUpTo : ℕ → Bool → Entry → ℕ → ℕ → Rule LawAndStep
+readEntryUpTo largest bad held r r0 =
+    let rule = readGivenUpTo largest (held .certificate) r r0 in
     record {
       tests = bad gives 23 ∷ not (isLive held) gives 20 ∷ rule .tests;
       zeros = noStep;
       Answer = rule .Answer;
     }
+
+abbrev pub readEntry : Bool → Entry → ℕ → ℕ → Rule LawAndStep
+readEntry = readEntryUpTo largestResistance

@@ -21,10 +21,10 @@ fn list_part(fd: i32) -> bool {
             fd,
             b"law  curve (IEC 60751), or ga, in, sn, zn, al, ag (ITS-90)\n",
         )
-        & put(fd, b"r    resistance, nanoohms, 1 to 1e12\n")
+        & put(fd, b"r    resistance, nanoohms, 1 to 1e13\n")
         & put(
             fd,
-            b"r0   that at 0 C (curve) or at the water cell, nanoohms, 1e8 to 1e12\n",
+            b"r0   that at 0 C (curve) or at the water cell, nanoohms, 1e8 to 1e13\n",
         )
         & put(
             fd,
@@ -35,13 +35,16 @@ fn list_part(fd: i32) -> bool {
 fn answer_part(fd: i32) -> bool {
     put(
         fd,
-        b"Numbers have at most 13 digits and no leading zero; a to d may have a\n",
+        b"Numbers have at most 13 digits, r and r0 14, and no leading zero; a to d\n",
     )
         & put(
             fd,
-            b"minus, not before 0. A line has at most 200 bytes before its CRLF. Each\n",
+            b"may have a minus, not before 0. A line has at most 200 bytes before its\n",
         )
-        & put(fd, b"is answered by a line\n\n    id,law,t,code\n\n")
+        & put(
+            fd,
+            b"CRLF. Each is answered by a line\n\n    id,law,t,code\n\n",
+        )
         & put(
             fd,
             b"with t in steps of 0.1 mK from 0 C and code 0, or no temperature and a code,\n",

@@ -35,10 +35,12 @@ OneStep range = (value s t : ℤ) → range .StepOf value s → range .StepOf va
 pub largest-is-one : (valueAt : ℤ → ℤ) (bottom top : ℤ) → OneStep (byLargest valueAt bottom top)
 largest-is-one valueAt bottom top value s t p q = largest-unique valueAt bottom top value s t p q
 
+-- by a range of one step for each value there is one answer
+pub same-reading : (law : Law) (range : Range) (value : ℤ) → OneStep range → (a b : LawAndStep) → readBy [] law range value .Answer a → readBy [] law range value .Answer b → a ≡ b
+same-reading law range value one a b p q = ap₂ {C = LawAndStep} (λ (l : Option Law) (s : ℤ). record { law = l; step = s }) (p .0 ∙ sym (q .0)) (one value (a .step) (b .step) (p .1) (q .1))
+
 pub one-reading : (earlier : List Test) (law : Law) (range : Range) (value : ℤ) → OneStep range → (o o′ : Outcome LawAndStep) → Follows (readBy earlier law range value) o → Follows (readBy earlier law range value) o′ → o ≡ o′
-one-reading earlier law range value one =
-    one-outcome (readBy earlier law range value)
-    (λ a b p q. ap₂ {C = LawAndStep} (λ (l : Option Law) (s : ℤ). record { law = l; step = s }) (p .0 ∙ sym (q .0)) (one value (a .step) (b .step) (p .1) (q .1)))
+one-reading earlier law range value one = one-outcome (readBy earlier law range value) (same-reading law range value one)
 
 -- by the largest step: from the side on which the value lies
 module _ (law : Law) (valueAt : ℤ → ℤ) (bottom top value : ℤ) where

@@ -4,3 +4,4 @@ pub mod Answers
 pub mod Unique
 pub mod Short
 pub mod ReadRows
+pub mod Widening

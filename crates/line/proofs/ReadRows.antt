@@ -21,15 +21,17 @@ use Rattle.reading.proofs.Demand.{largest-step}
 use Rattle.reading.proofs.Unique.{read-unique}
 use Rattle.text.specs.Decimal.{decimal, signedDecimal}
 use Rattle.text.specs.Columns.{Value, wellFormed, fieldAt, countAt}
+use Rattle.text.proofs.Longest.{fields-short}
 use Rattle.row.specs.Places.{givenAt}
+use Rattle.row.specs.Limits.{Limits, limits}
 use Rattle.row.specs.Readings.{columns}
-use Rattle.line.specs.Readings.{readings, readingRoom}
-use Rattle.line.specs.Promised.{LinesKept}
+use Rattle.line.specs.Readings.{readingsUpTo, readings, readingRoom}
+use Rattle.line.specs.Promised.{LinesKept, ReadingsShort}
 use Rattle.line.proofs.Unique.{Small, lines-kept}
 use Rattle.line.proofs.Short.{names-short, name-short, signed-few, small-row}
 
-one : (row : List Value) (o o′ : Outcome LawAndStep) → Follows (readings .rule row) o → Follows (readings .rule row) o′ → o ≡ o′
-one row = read-unique (givenAt 4 row) (countAt 2 row) (countAt 3 row)
+pub reading-row : (limits : Limits) (row : List Value) (o o′ : Outcome LawAndStep) → Follows (readingsUpTo limits .rule row) o → Follows (readingsUpTo limits .rule row) o′ → o ≡ o′
+reading-row limits row = read-unique (limits .largest) (givenAt 4 row) (countAt 2 row) (countAt 3 row)
 
 -- ---- how many bytes an answer has
 -- the steps of every law
@@ -54,4 +56,7 @@ short : (line : List ℕ) → wellFormed columns line ≡ true → length (field
 short line w = names-short _ name-short _ _ _ _ line w
 
 pub readings-kept : LinesKept readings readingRoom
-readings-kept = lines-kept readings 9 one small-reading short (omega arith) (omega arith)
+readings-kept = lines-kept readings 9 (reading-row limits) small-reading short (omega arith) (omega arith)
+
+pub readings-short : ReadingsShort
+readings-short = fields-short (readings .columns)

@@ -1,20 +1,26 @@
 -- What is promised of answers to lines besides each call's own outcome.
 use mathlib.Core.Path.{_≡_}
-use mathlib.Core.Bool.{true, false, _||_}
-use mathlib.Core.List.{List}
+use mathlib.Core.Bool.{Bool, true, false, _||_}
+use mathlib.Core.List.{List, map}
+use mathlib.Core.Option.{none}
 use Prim.Native.Nat.{ℕ, _≤_}
 use lib.Dec.{leb, eqb}
 use lib.ListN.{length}
 use Rattle.whole.specs.Choice.{if_then_else_}
 use Rattle.whole.specs.Text.{ascii}
 use Rattle.quantity.specs.Refusals.{numberOf}
-use Rattle.quantity.specs.declared.refusal.Refusal.the-variants.{FieldBroken}
+use Rattle.quantity.specs.declared.refusal.Refusal.the-variants.{ResistanceOutside, FieldBroken}
 use Rattle.text.specs.declared.columns.Fault.the-variants.{Broken}
-use Rattle.text.specs.Columns.{wellFormed, fieldAt}
+use Rattle.text.specs.Fields.{fields}
+use Rattle.text.specs.Numbers.{isNumber, valueOf}
+use Rattle.text.specs.Decimal.{decimal}
+use Rattle.text.specs.Columns.{held, wellFormed, firstBroken, fieldAt}
 use Rattle.text.specs.Promised.{FirstToBreak}
 use Rattle.line.specs.declared.lent.LineAnswer.{LineAnswer}
-use Rattle.line.specs.Kinds.{Kind, answerLine, blanks, isFault, faultColumns, namelessLine, RowAnswered, Answered}
+use Rattle.line.specs.Kinds.{Kind, inputHeader, outputHeader, answerLine, blanks, isFault, faultColumns, namelessLine, RowAnswered, Answered}
+use Rattle.row.specs.Limits.{Limits, limits, limitsBefore, Widened}
 use Rattle.line.specs.Lent.{AnsweredInto}
+use Rattle.line.specs.Readings.{readingsUpTo, readings}
 
 -- A line has one answer.
 abbrev pub OneAnswer : Kind → Type 0
@@ -45,7 +51,7 @@ FieldNamed kind =
     → (field : ℕ) × FirstToBreak (kind .columns) line field × (text ≡ namelessLine (faultColumns (kind .own) (Broken field)) FieldBroken)
 
 -- ---- what the three faults were before request 2
--- A line that is no row was answered by 10, and a row as it is now.
+-- Under the limits that stand here, whichever they are: a line that is no row was answered by 10, and a row as it is now.
 abbrev pub AnsweredBefore : Kind → List ℕ → ℕ → List ℕ → Type 0
 AnsweredBefore kind line number text =
     if wellFormed (kind .columns) line then RowAnswered kind line number text
@@ -71,3 +77,40 @@ pub record LinesKept (kind : Kind) (room : ℕ) : Type 0 where
   pub field-named : FieldNamed kind
   pub were-tens : WereTens kind
   pub had-answer : HadAnswer kind
+
+-- ---- wider limits of a resistance
+abbrev pub mayMove : ℕ → Bool
+mayMove number = eqb number (numberOf ResistanceOutside) || eqb number (numberOf FieldBroken)
+
+-- Of one kind of list under limits and under wider ones. Both have the same headers. What was answered to a line stays, its number and every byte, unless it was
+-- refused by 1 or by 14: it is answered still, and nothing else is. And a line that is answered now had an answer then.
+pub record OnlyRefusedMove (before after : Kind) : Type 0 where
+  pub input : inputHeader before ≡ inputHeader after
+  pub output : outputHeader before ≡ outputHeader after
+  pub stays : (line : List ℕ) (number : ℕ) (text : List ℕ) → Answered before line number text → mayMove number ≡ false → Answered after line number text
+  pub same : (line : List ℕ) (old number : ℕ) (oldText text : List ℕ) → Answered before line old oldText → mayMove old ≡ false → Answered after line number text
+      → (number ≡ old) × (text ≡ oldText)
+  pub had : (line : List ℕ) (number : ℕ) (text : List ℕ) → Answered after line number text → (old : ℕ) × (oldText : List ℕ) × Answered before line old oldText
+
+-- So it is with a kind, whichever limits are taken, the second no narrower. The limits alone are spoken of: it holds however a ratio is rounded and whichever laws
+-- there are, as long as a row has one outcome.
+abbrev pub ListWidens : (Limits → Kind) → Type 0
+ListWidens kind = (before after : Limits) → Widened before after → OnlyRefusedMove (kind before) (kind after)
+
+abbrev pub ReadingListWidens : Type 0
+ReadingListWidens = ListWidens readingsUpTo
+
+-- Request 9 raised the limits: its instance.
+abbrev pub Raised : (Limits → Kind) → Type 0
+Raised kind = OnlyRefusedMove (kind limitsBefore) (kind limits)
+
+-- Whoever has a resistance within its limits can type it: its digits are a number that a list takes, and say it.
+abbrev pub CanBeTyped : Type 0
+CanBeTyped = (r : ℕ) → r ≤ limits .largest → (isNumber (limits .digits) (decimal r) ≡ true) × (valueOf (decimal r) ≡ r)
+
+-- ---- how long a line of readings is
+-- So the limit of 200 bytes refuses none whose fields keep their rules.
+abbrev pub ReadingsShort : Type 0
+ReadingsShort =
+    (line : List ℕ) → length (fields line) ≡ length (readings .columns) → firstBroken 1 (map held (readings .columns)) (fields line) ≡ none
+    → length line ≤ 129

@@ -1,12 +1,13 @@
 -- The scope document's own list, and lines at the edges, byte for byte, which the checker computes.
 use mathlib.Core.Path.{_≡_, refl}
+use mathlib.Core.Bool.{true}
 use mathlib.Core.Option.{some}
 use mathlib.Core.List.{List, [], _∷_}
 use native.Mathlib.Omega.{arith}
 use Prim.Native.Nat.{ℕ}
 use Prim.Native.Char.{code}
 use lib.IntN.{ℤ, pos}
-use lib.ListN.{replicate}
+use lib.ListN.{length, replicate}
 use Rattle.whole.specs.Text.{ascii}
 use Rattle.exact.specs.Polynomial.{rounded}
 use Rattle.law.specs.declared.laws.Law.the-variants.{Curve, Scale}
@@ -20,13 +21,15 @@ use Rattle.reference.specs.Reference.{working}
 use Rattle.curve.specs.Curve.{exact, quadratic, quartic, units}
 use Rattle.certificate.specs.declared.soundness.Given.{Given}
 use Rattle.deviation.specs.Working.{plainDeviation, hasDTerm, z, dTerm, deviation, Wr}
-use Rattle.reading.specs.Reading.{readGiven}
+use Rattle.reading.specs.Reading.{readGivenUpTo, readGiven}
 use Rattle.reading.proofs.Tests.{step-passes}
 use Rattle.law.specs.Names.{spelled}
 use Rattle.text.specs.Decimal.{decimal}
 use Rattle.text.specs.Columns.{wellFormed, faultBy, faultOf, values}
+use Rattle.row.specs.Limits.{limitsBefore}
 use Rattle.line.specs.Kinds.{Answered}
-use Rattle.line.specs.Readings.{readings}
+use Rattle.line.specs.Readings.{readingsUpTo, readings}
+use Rattle.line.proofs.Widening.{readings-raised}
 use Rattle.bench.specs.Certificates.{records}
 use Rattle.bench.specs.Tolerances.{tolerances}
 use Rattle.text.proofs.Decimals.{decimal-one, decimal-more}
@@ -170,3 +173,81 @@ of-a-record = (refl, refl)
 pub of-a-test : Answered tolerances (ascii "S1,A,0,0100,100000000000") 14 (ascii "?,?,4,,14\r\n")
 unfolding faultOf faultBy decimal
 of-a-test = (refl, refl)
+
+-- ---- what request 9 moved
+-- a Pt1000 at 100 °C, over 1 kΩ: 1 before, and read now
+abbrev Pt1000 : List ℕ
+Pt1000 = ascii "P1,curve,1385055000000,1000000000000,0,0,0,0,0"
+
+pub was-outside : Answered (readingsUpTo limitsBefore) Pt1000 1 (ascii "P1,curve,,1\r\n")
+unfolding faultOf faultBy values
+was-outside = (refused noStep 1, refl, refl, rw (decimal-one 1 (omega arith)))
+
+read-Pt1000 : Follows (readGiven (given (spelled "curve") 0) 1_385_055_000_000 1_000_000_000_000) (at Curve (pos 1_000_000))
+unfolding exact quadratic quartic units
+read-Pt1000 = step-passes Curve (zeros 0) 1_385_055_000 (pos 1_000_000) refl
+
+pub is-read : Answered readings Pt1000 0 (ascii "P1,curve,1000000,0\r\n")
+unfolding faultOf faultBy values
+is-read = (at Curve (pos 1_000_000), read-Pt1000, refl, rw (digits-of-F1, decimal-one 0 (omega arith)))
+
+-- both at 1 kΩ, the limit that was: read before, and so still
+at-zero : Follows (readGivenUpTo (limitsBefore .largest) (given (spelled "curve") 0) 1_000_000_000_000 1_000_000_000_000) (at Curve (pos 0))
+unfolding exact quadratic quartic units
+at-zero = step-passes Curve (zeros 0) 1_000_000_000 (pos 0) refl
+
+abbrev ice : List ℕ
+ice = ascii "P1,curve,1000000000000,1000000000000,0,0,0,0,0"
+
+pub was-read : Answered (readingsUpTo limitsBefore) ice 0 (ascii "P1,curve,0,0\r\n")
+unfolding faultOf faultBy values
+was-read = (at Curve (pos 0), at-zero, refl, rw (decimal-one 0 (omega arith)))
+
+pub still-read : Answered readings ice 0 (ascii "P1,curve,0,0\r\n")
+still-read = readings-raised .stays ice 0 (ascii "P1,curve,0,0\r\n") was-read refl
+
+-- both at 10 kΩ, the limit: field 3 before, and read now
+abbrev both-largest : List ℕ
+both-largest = ascii "P1,curve,10000000000000,10000000000000,0,0,0,0,0"
+
+pub was-no-row : Answered (readingsUpTo limitsBefore) both-largest 14 (ascii "?,?,3,14\r\n")
+unfolding faultOf faultBy decimal
+was-no-row = (refl, refl)
+
+read-largest : Follows (readGiven (given (spelled "curve") 0) 10_000_000_000_000 10_000_000_000_000) (at Curve (pos 0))
+unfolding exact quadratic quartic units
+read-largest = step-passes Curve (zeros 0) 1_000_000_000 (pos 0) refl
+
+pub largest-read : Answered readings both-largest 0 (ascii "P1,curve,0,0\r\n")
+unfolding faultOf faultBy values
+largest-read = (at Curve (pos 0), read-largest, refl, rw (decimal-one 0 (omega arith)))
+
+-- a nanoohm more: field 3 before, and 1 now
+pub past-largest : Answered readings (ascii "P1,curve,10000000000001,10000000000000,0,0,0,0,0") 1 (ascii "P1,curve,,1\r\n")
+unfolding faultOf faultBy values
+past-largest = (refused noStep 1, refl, refl, rw (decimal-one 1 (omega arith)))
+
+-- r of 14 digits and r0 of 15: field 3 before, and field 4 now
+abbrev long-resistances : List ℕ
+long-resistances = ascii "P1,curve,10000000000000,100000000000000,0,0,0,0,0"
+
+pub was-field-3 : Answered (readingsUpTo limitsBefore) long-resistances 14 (ascii "?,?,3,14\r\n")
+unfolding faultOf faultBy decimal
+was-field-3 = (refl, refl)
+
+pub is-field-4 : Answered readings long-resistances 14 (ascii "?,?,4,14\r\n")
+unfolding faultOf faultBy decimal
+is-field-4 = (refl, refl)
+
+-- 14 digits are too many for a, as they were
+pub long-a : Answered readings (ascii "P1,curve,1385055000000,1000000000000,-10000000000000,0,0,0,0") 14 (ascii "?,?,5,14\r\n")
+unfolding faultOf faultBy decimal
+long-a = (refl, refl)
+
+-- a row of 129 bytes, than which none is longer
+abbrev longest-line : List ℕ
+longest-line = ascii "ABCDEFGHIJKLMNOP,abcdefgh,99999999999999,99999999999999,-9999999999999,-9999999999999,-9999999999999,-9999999999999,9999999999999"
+
+pub longest-row : (length longest-line ≡ 129) × (wellFormed (readings .columns) longest-line ≡ true)
+unfolding wellFormed faultOf faultBy
+longest-row = (refl, refl)

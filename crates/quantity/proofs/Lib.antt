@@ -2,5 +2,6 @@
 pub mod Refusals
 pub mod Outcomes
 pub mod Ratios
+pub mod Widening
 pub mod Division
 pub mod Values

@@ -1,7 +1,8 @@
 -- Ratios that the checker computes: bench card 9, and both sides of each limit.
 use mathlib.Core.Path.{refl}
+use Prim.Native.Nat.{_^_}
 use Rattle.quantity.specs.Outcomes.{answered, refused, Follows}
-use Rattle.quantity.specs.Ratios.{ratioRule}
+use Rattle.quantity.specs.Ratios.{ratioRuleUpTo, ratioRule}
 
 six-units : Follows (ratioRule 2 300_000_000) (answered 6)
 six-units = (refl, refl)
@@ -20,8 +21,26 @@ no-resistance : Follows (ratioRule 0 100_000_000) (refused 0 1)
 no-resistance = refl
 
 -- 1 is tested before 2
-small-divisor : Follows (ratioRule 1_000_000_000_000 99_999_999) (refused 0 1)
+small-divisor : Follows (ratioRule 10_000_000_000_000 99_999_999) (refused 0 1)
 small-divisor = refl
 
-large-divisor : Follows (ratioRule 1 1_000_000_000_001) (refused 0 1)
+-- the largest of both
+largest : Follows (ratioRule 10_000_000_000_000 10_000_000_000_000) (answered 1_000_000_000)
+largest = (refl, refl)
+
+-- the largest ratio that is formed
+largest-ratio : Follows (ratioRule 10_000_000_000_000 100_000_000) (refused 0 2)
+largest-ratio = refl
+
+large-reading : Follows (ratioRule 10_000_000_000_001 10_000_000_000_000) (refused 0 1)
+large-reading = refl
+
+large-divisor : Follows (ratioRule 1 10_000_000_000_001) (refused 0 1)
 large-divisor = refl
+
+-- a Pt1000 at 100 °C: over 10^12 nΩ, where the limit was before request 9
+was-outside : Follows (ratioRuleUpTo (10 ^ 12) 1_385_055_000_000 1_000_000_000_000) (refused 0 1)
+was-outside = refl
+
+is-read : Follows (ratioRule 1_385_055_000_000 1_000_000_000_000) (answered 1_385_055_000)
+is-read = (refl, refl)

@@ -10,18 +10,25 @@ kelvinOf celsius = celsius +ℤ pos 2_731_500
 
 -- The limits of a resistance, in nΩ.
 abbrev pub largestResistance : ℕ
-largestResistance = 10 ^ 12
+largestResistance = 10 ^ 13
 
 abbrev pub leastDivisor : ℕ
 leastDivisor = 10 ^ 8
 
--- A reading R is 1 to 10^12 nΩ.
-abbrev pub isReading : ℕ → Bool
-isReading r = leb 1 r && leb r largestResistance
+-- Up to a largest resistance, which is a parameter of each rule that asks for it: so what request 9 moved when it raised it can be said.
+abbrev pub isReadingUpTo : ℕ → ℕ → Bool
+isReadingUpTo largest r = leb 1 r && leb r largest
 
--- A divisor R0 is 10^8 to 10^12 nΩ.
+abbrev pub isDivisorUpTo : ℕ → ℕ → Bool
+isDivisorUpTo largest r0 = leb leastDivisor r0 && leb r0 largest
+
+-- A reading R is 1 to 10^13 nΩ.
+abbrev pub isReading : ℕ → Bool
+isReading = isReadingUpTo largestResistance
+
+-- A divisor R0 is 10^8 to 10^13 nΩ.
 abbrev pub isDivisor : ℕ → Bool
-isDivisor r0 = leb leastDivisor r0 && leb r0 largestResistance
+isDivisor = isDivisorUpTo largestResistance
 
 -- 1 as a ratio: ratios count in units of 10^-9.
 abbrev pub one : ℕ

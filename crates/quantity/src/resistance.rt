@@ -19,7 +19,7 @@ pub enum RatioAnswer {
     Refused(Refusal),
 }
 
-const LARGEST: u64 = 1_000_000_000_000;
+const LARGEST: u64 = 10_000_000_000_000;
 
 const LEAST_DIVISOR: u64 = 100_000_000;
 

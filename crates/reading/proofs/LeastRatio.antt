@@ -11,7 +11,7 @@ use lib.IntN.{ℤ, pos, _+ℤ_}
 use lib.Signed.{ltZ, _≤ℤ_, _<ℤ_}
 use Rattle.whole.proofs.Machine.{lt-no}
 use Rattle.whole.proofs.Parts.{up, dn, ints, add-parts}
-use Rattle.quantity.specs.Quantities.{isReading, isDivisor, ratioOf, largestRatio}
+use Rattle.quantity.specs.Quantities.{largestResistance, isReading, isDivisor, ratioOf, largestRatio}
 use Rattle.quantity.specs.Outcomes.{Outcome, answered, _gives_, numberGiven, Follows, ifNamed}
 use Rattle.quantity.specs.Ratios.{ratioTests}
 use Rattle.quantity.proofs.Outcomes.{passed}
@@ -113,4 +113,4 @@ reads-back k r r0 step s f o named h z d e g =
     let l : Least (carried s .form) (k .places) step (ratioOf r r0) = rw e (w .ratio-of) in
     let t : Outcome LawAndStep = answered (record { law = some (Scale s); step = step }) in
     let read : Follows (readCertificate (certificateOf (Scale s) k) r r0) t = reads-resistances (certificateOf (Scale s) k) r r0 (w .sound-certificate) d (l .within) t (reads-ratio s (k .places) (w .keeps) step (ratioOf r r0) from to l) in
-    read-unique k r r0 o t g (subst (λ (n : Option Law). Follows (ifNamed noStep n (λ law. readCertificate (certificateOf law k) r r0)) t) (sym named) read)
+    read-unique largestResistance k r r0 o t g (subst (λ (n : Option Law). Follows (ifNamed noStep n (λ law. readCertificate (certificateOf law k) r r0)) t) (sym named) read)

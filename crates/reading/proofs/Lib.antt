@@ -6,3 +6,4 @@ pub mod Unique
 pub mod Tests
 pub mod LeastRatio
 pub mod Whole
+pub mod Widening

@@ -6,6 +6,7 @@ use native.Mathlib.Decide.{decLt}
 use native.Mathlib.Omega.{arith}
 use lib.IntN.{ℤ, pos}
 use Rattle.whole.proofs.Parts.{ints}
+use Rattle.quantity.specs.Quantities.{largestResistance, ratioOf}
 use Rattle.quantity.specs.Outcomes.{Outcome, Follows, ifNamed}
 use Rattle.quantity.proofs.Outcomes.{one-outcome, one-named}
 use Rattle.law.specs.declared.subrange.Subrange.{Subrange}
@@ -15,7 +16,7 @@ use Rattle.law.specs.declared.answer.ReadingAnswer.{ReadingAnswer}
 use Rattle.law.specs.declared.answer.ForwardAnswer.{ForwardAnswer}
 use Rattle.law.specs.Subranges.{carried, lawNamed}
 use Rattle.law.specs.Answers.{LawAndStep, noStep, stated, LawAndRatio, noRatio, statedForward}
-use Rattle.law.proofs.Answers.{OneStep, largest-is-one, stated-unique, forward-unique}
+use Rattle.law.proofs.Answers.{OneStep, largest-is-one, same-reading, stated-unique, forward-unique}
 use Rattle.reference.specs.Reference.{working}
 use Rattle.curve.specs.Curve as curve
 use Rattle.curve.proofs.Unique as curve-unique
@@ -23,8 +24,8 @@ use Rattle.deviation.specs.declared.places.Places.{Places}
 use Rattle.certificate.specs.declared.soundness.Given.{Given}
 use Rattle.certificate.specs.declared.soundness.Certificate.{Certificate}
 use Rattle.certificate.specs.Certificate.{certificateOf}
-use Rattle.reading.specs.Laws.{rangeOf}
-use Rattle.reading.specs.Reading.{readCertificate, readGiven}
+use Rattle.reading.specs.Laws.{valueOf, rangeOf}
+use Rattle.reading.specs.Reading.{readCertificateUpTo, readCertificate, readGivenUpTo, readGiven}
 use Rattle.reading.specs.Forward.{Least, RatioAt, forwardCertificate, forwardGiven}
 use Rattle.reading.proofs.Demand.{largest-step}
 
@@ -34,9 +35,8 @@ one-step Curve value s t p q = largest-is-one curve.exact curve.first curve.last
 one-step (Scale u) value s t p q =
     largest-is-one working (pos 0) (carried u .top) value s t (largest-step u value s p) (largest-step u value t q)
 
-same-step : (k : Certificate) (r r0 : ℕ) (a b : LawAndStep) → readCertificate k r r0 .Answer a → readCertificate k r r0 .Answer b → a ≡ b
-same-step k r r0 a b p q =
-    ap₂ {C = LawAndStep} (λ (l : Option Law) (s : ℤ). record { law = l; step = s }) (p .0 ∙ sym (q .0)) (one-step (k .law) _ (a .step) (b .step) (p .1) (q .1))
+pub same-step : (k : Certificate) (r r0 : ℕ) (a b : LawAndStep) → readCertificate k r r0 .Answer a → readCertificate k r r0 .Answer b → a ≡ b
+same-step k r r0 = same-reading (k .law) (rangeOf (k .law)) (valueOf (k .law) (k .places) (ratioOf r r0)) (one-step (k .law))
 
 pub given-same-step : (k : Given) (r r0 : ℕ) (a b : LawAndStep) → readGiven k r r0 .Answer a → readGiven k r r0 .Answer b → a ≡ b
 given-same-step k r r0 a b = by (lawNamed (k .law .0))
@@ -45,11 +45,11 @@ given-same-step k r r0 a b = by (lawNamed (k .law .0))
     by none p q = absurd p
     by (some law) p q = same-step (certificateOf law k) r r0 a b p q
 
-pub read-unique : (k : Given) (r r0 : ℕ) (o o′ : Outcome LawAndStep) → Follows (readGiven k r r0) o → Follows (readGiven k r r0) o′ → o ≡ o′
-read-unique k r r0 o o′ h i = one-outcome (readGiven k r r0) (given-same-step k r r0) o o′ h i
+pub read-unique : (largest : ℕ) (k : Given) (r r0 : ℕ) (o o′ : Outcome LawAndStep) → Follows (readGivenUpTo largest k r r0) o → Follows (readGivenUpTo largest k r r0) o′ → o ≡ o′
+read-unique largest k r r0 = one-named noStep (lawNamed (k .law .0)) (λ law. readCertificateUpTo largest (certificateOf law k) r r0) (λ law. same-step (certificateOf law k) r r0)
 
 pub one-reading : (k : Given) (r r0 : ℕ) (x y : ReadingAnswer) → Follows (readGiven k r r0) (stated x) → Follows (readGiven k r r0) (stated y) → x ≡ y
-one-reading k r r0 x y h i = stated-unique x y (read-unique k r r0 (stated x) (stated y) h i)
+one-reading k r r0 x y h i = stated-unique x y (read-unique largestResistance k r r0 (stated x) (stated y) h i)
 
 pub one-reading-by : (k : Certificate) (r r0 : ℕ) (x y : ReadingAnswer) → Follows (readCertificate k r r0) (stated x) → Follows (readCertificate k r r0) (stated y) → x ≡ y
 one-reading-by k r r0 x y h i = stated-unique x y (one-outcome (readCertificate k r r0) (same-step k r r0) (stated x) (stated y) h i)

@@ -10,6 +10,7 @@ use lib.Signed.{_≤ℤ_}
 use Rattle.exact.specs.Fraction.{integer, _+ᶠ_, _≤ᶠ_}
 use Rattle.quantity.specs.Quantities.{isReading, isDivisor, ratioOf}
 use Rattle.quantity.specs.Outcomes.{Outcome, answered, Follows}
+use Rattle.quantity.specs.Promised.{Widens}
 use Rattle.law.specs.declared.subrange.Form.{Form}
 use Rattle.law.specs.declared.subrange.Subrange.{Subrange}
 use Rattle.law.specs.declared.laws.Law.the-variants.{Scale}
@@ -24,7 +25,7 @@ use Rattle.certificate.specs.declared.soundness.Given.{Given}
 use Rattle.certificate.specs.declared.soundness.Certificate.{Certificate}
 use Rattle.certificate.specs.Certificate.{givenOf, held}
 use Rattle.certificate.specs.Record.{recordRule}
-use Rattle.reading.specs.Reading.{readCertificate, readGiven}
+use Rattle.reading.specs.Reading.{readCertificateUpTo, readCertificate, readGivenUpTo, readGiven}
 use Rattle.reading.specs.Forward.{Least, forwardCertificate, forwardGiven}
 
 -- An answered reading names the law that was asked for, and no other.
@@ -53,6 +54,14 @@ abbrev pub AnswersOrdered : Type 0
 AnswersOrdered =
     (k : Given) (r r′ r0 : ℕ) (o o′ : Outcome LawAndStep) → Follows (readGiven k r r0) o → Follows (readGiven k r′ r0) o′
     → o .code ≡ 0 → o′ .code ≡ 0 → r ≤ r′ → o .answer .step ≤ℤ o′ .answer .step
+
+-- ---- a larger resistance allowed
+-- Of readings by a certificate and by one as it was given, only what was refused by 1 moves.
+abbrev pub CertificateWidens : Type 0
+CertificateWidens = (k : Certificate) (r r0 : ℕ) → Widens (λ largest. readCertificateUpTo largest k r r0)
+
+abbrev pub GivenWidens : Type 0
+GivenWidens = (k : Given) (r r0 : ℕ) → Widens (λ largest. readGivenUpTo largest k r r0)
 
 -- ---- certificates that travel whole
 -- What follows the rule of a certificate follows that of the same one given by its law's name, so all that is said here of given ones holds of it too.

@@ -11,6 +11,7 @@ use lib.ListN.{length, getD}
 use lib.Signed.{_≤ℤ_}
 use Rattle.quantity.specs.Quantities.{ratioOf}
 use Rattle.quantity.specs.Outcomes.{Outcome, Follows}
+use Rattle.quantity.specs.Promised.{Widens}
 use Rattle.law.specs.declared.laws.Law.the-variants.{Scale}
 use Rattle.law.specs.declared.subrange.Subrange.{Subrange}
 use Rattle.law.specs.Subranges.{carried, lawNamed}
@@ -26,7 +27,7 @@ use Rattle.examination.specs.Answering.{stated as changed}
 use Rattle.register.specs.Table.{entryOf, badTable}
 use Rattle.register.specs.Import.{short, importRefusal, imported, ImportedAs}
 use Rattle.register.specs.Withdrawal.{withdrawalRefusal, withdrawn, WithdrawnAs}
-use Rattle.register.specs.Reading.{ReadThrough}
+use Rattle.register.specs.Reading.{readThroughUpTo, ReadThrough}
 
 -- A number names a thermometer where it is not 0.
 abbrev pub Names : ℕ → Type 0
@@ -130,6 +131,10 @@ abbrev pub ThroughOrdered : Type 0
 ThroughOrdered =
     (table : List Entry) (n r r′ r0 : ℕ) (o o′ : Outcome LawAndStep) → ReadThrough table n r r0 o → ReadThrough table n r′ r0 o′ → o .code ≡ 0 → o′ .code ≡ 0
     → r ≤ r′ → o .answer .step ≤ℤ o′ .answer .step
+
+-- A larger resistance allowed, only what was refused by 1 moves.
+abbrev pub ThroughWidens : Type 0
+ThroughWidens = (table : List Entry) (n r r0 : ℕ) → Widens (λ largest. readThroughUpTo largest table n r r0)
 
 -- ---- what is withdrawn stays withdrawn
 -- What changes a register: imports, withdrawals.

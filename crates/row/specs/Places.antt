@@ -5,7 +5,7 @@ use Rattle.deviation.specs.declared.places.Places.{Places}
 use Rattle.certificate.specs.declared.soundness.Given.{Given}
 use Rattle.text.specs.Columns.{Value, nameAt, integerAt, countAt}
 
--- The most digits of a number in a list.
+-- The most digits of a number in a list, unless it is a resistance.
 abbrev pub digits : ℕ
 digits = 13
 

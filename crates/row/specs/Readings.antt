@@ -8,19 +8,24 @@ use Rattle.row.specs.declared.readings.ReadingParsed.{ReadingParsed}
 use Rattle.row.specs.declared.readings.ReadingParsed.the-variants.{Row, NoRow}
 use Rattle.row.specs.Parsing.{Parsing, aRow, noRow, parsedBy}
 use Rattle.row.specs.Places.{digits, givenAt}
+use Rattle.row.specs.Limits.{limits}
 
-abbrev pub columns : List Column
-columns =
+-- Its resistances have at most so many digits.
+abbrev pub columnsUpTo : ℕ → List Column
+columnsUpTo most =
     "id" holds Id
     ∷ "law" holds Name
-    ∷ "r" holds Natural digits
-    ∷ "r0" holds Natural digits
+    ∷ "r" holds Natural most
+    ∷ "r0" holds Natural most
     ∷ "a" holds Signed digits
     ∷ "b" holds Signed digits
     ∷ "c" holds Signed digits
     ∷ "d" holds Signed digits
     ∷ "wal" holds Natural digits
     ∷ []
+
+abbrev pub columns : List Column
+columns = columnsUpTo (limits .digits)
 
 abbrev pub rowFrom : ℕ → List Value → ReadingRow
 rowFrom names row = record { names = names; certificate = givenAt 4 row; r = record { 0 = countAt 2 row }; r0 = record { 0 = countAt 3 row } }

@@ -12,27 +12,31 @@ use Rattle.row.specs.declared.resistances.ResistancesRow.{ResistancesRow
 use Rattle.row.specs.declared.resistances.ResistancesParsed.{ResistancesParsed}
 use Rattle.row.specs.declared.resistances.ResistancesParsed.the-variants.{Row, NoRow}
 use Rattle.row.specs.Parsing.{Parsing, aRow, noRow, parsedBy}
-use Rattle.row.specs.Places.{digits}
+use Rattle.row.specs.Limits.{limits}
 
-abbrev pub columns : List Column
-columns =
+-- Its resistances have at most so many digits.
+abbrev pub columnsUpTo : ℕ → List Column
+columnsUpTo most =
     "id" holds Id
     ∷ "subrange" holds Name
-    ∷ "hg" holds Natural digits
-    ∷ "hg0" holds Natural digits
-    ∷ "ga" holds Natural digits
-    ∷ "ga0" holds Natural digits
-    ∷ "in" holds Natural digits
-    ∷ "in0" holds Natural digits
-    ∷ "sn" holds Natural digits
-    ∷ "sn0" holds Natural digits
-    ∷ "zn" holds Natural digits
-    ∷ "zn0" holds Natural digits
-    ∷ "al" holds Natural digits
-    ∷ "al0" holds Natural digits
-    ∷ "ag" holds Natural digits
-    ∷ "ag0" holds Natural digits
+    ∷ "hg" holds Natural most
+    ∷ "hg0" holds Natural most
+    ∷ "ga" holds Natural most
+    ∷ "ga0" holds Natural most
+    ∷ "in" holds Natural most
+    ∷ "in0" holds Natural most
+    ∷ "sn" holds Natural most
+    ∷ "sn0" holds Natural most
+    ∷ "zn" holds Natural most
+    ∷ "zn0" holds Natural most
+    ∷ "al" holds Natural most
+    ∷ "al0" holds Natural most
+    ∷ "ag" holds Natural most
+    ∷ "ag0" holds Natural most
     ∷ []
+
+abbrev pub columns : List Column
+columns = columnsUpTo (limits .digits)
 
 -- The sensor's resistance in a cell, and in the water cell.
 abbrev pub pairOf : ℕ → ℕ → Pair
@@ -41,8 +45,8 @@ pairOf r r0 = record { r = record { 0 = r }; r0 = record { 0 = r0 } }
 -- What an inner function answers: the pair in the two fields from an offset on, and where the next field starts.
 abbrev pub pairAt : List ℕ → ℕ → PairAt
 pairAt line from =
-    let r = scannedAt (isNumber digits) valueOf line from in
-    let r0 = scannedAt (isNumber digits) valueOf line (r .next) in
+    let r = scannedAt (isNumber (limits .digits)) valueOf line from in
+    let r0 = scannedAt (isNumber (limits .digits)) valueOf line (r .next) in
     record { pair = pairOf (r .value) (r0 .value); next = r0 .next }
 
 abbrev pub resistancesFrom : List Value → Resistances

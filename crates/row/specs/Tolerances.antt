@@ -8,15 +8,20 @@ use Rattle.row.specs.declared.tolerances.ToleranceParsed.{ToleranceParse
 use Rattle.row.specs.declared.tolerances.ToleranceParsed.the-variants.{Row, NoRow}
 use Rattle.row.specs.Parsing.{Parsing, aRow, noRow, parsedBy}
 use Rattle.row.specs.Places.{digits}
+use Rattle.row.specs.Limits.{limits}
 
-abbrev pub columns : List Column
-columns =
+-- Its resistances have at most so many digits.
+abbrev pub columnsUpTo : ℕ → List Column
+columnsUpTo most =
     "id" holds Id
     ∷ "class" holds Letter
     ∷ "t" holds Signed digits
-    ∷ "r" holds Natural digits
-    ∷ "r0" holds Natural digits
+    ∷ "r" holds Natural most
+    ∷ "r0" holds Natural most
     ∷ []
+
+abbrev pub columns : List Column
+columns = columnsUpTo (limits .digits)
 
 abbrev pub rowFrom : ℕ → List Value → ToleranceRow
 rowFrom names row = record {

@@ -5,6 +5,7 @@ ghost use Rattle.text.specs.Columns.{wellFormed};
 ghost use Rattle.row.specs.Parsing.{heldBy};
 ghost use Rattle.row.specs.Readings.{columns, stated, parsedAs};
 use crate::digits::DIGITS;
+use crate::digits::RESISTANCE_DIGITS;
 use certificate::Given;
 use deviation::Places;
 use law::Name;
@@ -42,8 +43,8 @@ pub fn reading_columns() -> [Holds; MOST_COLUMNS]
     [
         Holds::Id,
         Holds::Name,
-        Holds::Natural(DIGITS),
-        Holds::Natural(DIGITS),
+        Holds::Natural(RESISTANCE_DIGITS),
+        Holds::Natural(RESISTANCE_DIGITS),
         Holds::Signed(DIGITS),
         Holds::Signed(DIGITS),
         Holds::Signed(DIGITS),
@@ -74,8 +75,8 @@ pub fn parse_reading(line: &[u8]) -> ReadingParsed
         return no_row(line);
     }
     let law = name_at(line, after_id(line));
-    let r = number_at(line, law.next, DIGITS);
-    let r0 = number_at(line, r.next, DIGITS);
+    let r = number_at(line, law.next, RESISTANCE_DIGITS);
+    let r0 = number_at(line, r.next, RESISTANCE_DIGITS);
     let a = signed_at(line, r0.next, DIGITS);
     let b = signed_at(line, a.next, DIGITS);
     let c = signed_at(line, b.next, DIGITS);

@@ -6,7 +6,7 @@ ghost use lib.ListN.{length};
 ghost use Rattle.text.specs.Columns.{longestLine, wellFormed};
 ghost use Rattle.row.specs.Parsing.{heldBy};
 ghost use Rattle.row.specs.Resistances.{columns, pairAt, stated, parsedAs};
-use crate::digits::DIGITS;
+use crate::digits::RESISTANCE_DIGITS;
 use certificate::Pair;
 use certificate::Resistances;
 use law::Name;
@@ -40,20 +40,20 @@ pub fn resistances_columns() -> [Holds; MOST_COLUMNS]
     [
         Holds::Id,
         Holds::Name,
-        Holds::Natural(DIGITS),
-        Holds::Natural(DIGITS),
-        Holds::Natural(DIGITS),
-        Holds::Natural(DIGITS),
-        Holds::Natural(DIGITS),
-        Holds::Natural(DIGITS),
-        Holds::Natural(DIGITS),
-        Holds::Natural(DIGITS),
-        Holds::Natural(DIGITS),
-        Holds::Natural(DIGITS),
-        Holds::Natural(DIGITS),
-        Holds::Natural(DIGITS),
-        Holds::Natural(DIGITS),
-        Holds::Natural(DIGITS),
+        Holds::Natural(RESISTANCE_DIGITS),
+        Holds::Natural(RESISTANCE_DIGITS),
+        Holds::Natural(RESISTANCE_DIGITS),
+        Holds::Natural(RESISTANCE_DIGITS),
+        Holds::Natural(RESISTANCE_DIGITS),
+        Holds::Natural(RESISTANCE_DIGITS),
+        Holds::Natural(RESISTANCE_DIGITS),
+        Holds::Natural(RESISTANCE_DIGITS),
+        Holds::Natural(RESISTANCE_DIGITS),
+        Holds::Natural(RESISTANCE_DIGITS),
+        Holds::Natural(RESISTANCE_DIGITS),
+        Holds::Natural(RESISTANCE_DIGITS),
+        Holds::Natural(RESISTANCE_DIGITS),
+        Holds::Natural(RESISTANCE_DIGITS),
     ]
 }
 
@@ -74,8 +74,8 @@ fn pair_at(line: &[u8], from: usize) -> PairAt
     requires { ⌜ length (now line) ≤ longestLine ⌝ }
     ensures { λ x. ⌜ x ≡ pairAt (now (line .entry)) from ⌝ }
 {
-    let r = number_at(line, from, DIGITS);
-    let r0 = number_at(line, r.next, DIGITS);
+    let r = number_at(line, from, RESISTANCE_DIGITS);
+    let r0 = number_at(line, r.next, RESISTANCE_DIGITS);
     PairAt {
         pair: Pair {
             r: Nanoohm(r.value),

@@ -5,6 +5,7 @@ ghost use Rattle.text.specs.Columns.{wellFormed};
 ghost use Rattle.row.specs.Parsing.{heldBy};
 ghost use Rattle.row.specs.Tolerances.{columns, stated, parsedAs};
 use crate::digits::DIGITS;
+use crate::digits::RESISTANCE_DIGITS;
 use quantity::Celsius;
 use quantity::Nanoohm;
 use text::Fault;
@@ -41,8 +42,8 @@ pub fn tolerance_columns() -> [Holds; MOST_COLUMNS]
         Holds::Id,
         Holds::Letter,
         Holds::Signed(DIGITS),
-        Holds::Natural(DIGITS),
-        Holds::Natural(DIGITS),
+        Holds::Natural(RESISTANCE_DIGITS),
+        Holds::Natural(RESISTANCE_DIGITS),
         Holds::Id,
         Holds::Id,
         Holds::Id,
@@ -73,8 +74,8 @@ pub fn parse_tolerance(line: &[u8]) -> ToleranceParsed
     }
     let class = letter_at(line, after_id(line));
     let t = signed_at(line, class.next, DIGITS);
-    let r = number_at(line, t.next, DIGITS);
-    let r0 = number_at(line, r.next, DIGITS);
+    let r = number_at(line, t.next, RESISTANCE_DIGITS);
+    let r0 = number_at(line, r.next, RESISTANCE_DIGITS);
     if r0.next != line.len() + 1 {
         return no_row(line);
     }

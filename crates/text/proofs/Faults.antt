@@ -184,7 +184,7 @@ named-at n m (c ∷ cs) (f ∷ fs) e = by (rule c f) refl e (named-at (n + 1) m 
         earlier later zero h = r
         earlier later (suc j) h = later .before j (omega arith)
 
-map-long : (cs : List Column) → length (map held cs) ≡ length cs
+pub map-long : (cs : List Column) → length (map held cs) ≡ length cs
 map-long [] = refl
 map-long (c ∷ cs) = ap suc (map-long cs)
 

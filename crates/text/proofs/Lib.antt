@@ -10,5 +10,7 @@ pub mod Round
 pub mod Overs
 pub mod Rows
 pub mod Faults
+pub mod Widening
 pub mod Names
+pub mod Longest
 pub mod Adding

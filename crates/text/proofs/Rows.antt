@@ -41,7 +41,7 @@ eqb-suc m n = by (eqb m n) refl
     by false e = ne-eqb (suc m) (suc n) (λ k. false≢true (sym e ∙ eq-eqb m n (omega arith)))
 
 -- whatever the number that the first of them has
-kept-none : (n : ℕ) (cs : List Column) (fs : List (List ℕ)) → keep cs fs ≡ (if not (eqb (length fs) (length (map held cs))) then false else isNone (firstBroken n (map held cs) fs))
+pub kept-none : (n : ℕ) (cs : List Column) (fs : List (List ℕ)) → keep cs fs ≡ (if not (eqb (length fs) (length (map held cs))) then false else isNone (firstBroken n (map held cs) fs))
 kept-none n [] [] = refl
 kept-none n [] (f ∷ fs) = rw (ne-eqb (suc (length fs)) 0 (λ e. omega arith))
 kept-none n (c ∷ cs) [] = rw (ne-eqb 0 (suc (length (map held cs))) (λ e. omega arith))

@@ -2,7 +2,7 @@
 use mathlib.Core.List.{List, [], _∷_, map}
 use mathlib.Core.Bool.{Bool, true, false, _&&_, _||_, not}
 use mathlib.Core.Option.{Option, none, some}
-use Prim.Native.Nat.{ℕ, _+_}
+use Prim.Native.Nat.{ℕ, _+_, _-_}
 use Prim.Native.Char.{code}
 use Prim.Native.String.{String}
 use lib.Dec.{ltb, eqb}
@@ -101,6 +101,24 @@ isNone (some fault) = false
 -- A line is a row where nothing is at fault.
 unfoldable pub wellFormed : List Column → List ℕ → Bool
 wellFormed columns line = isNone (faultOf columns line)
+
+-- ---- how long a row is
+-- The most bytes that a field has by its rule; a minus is no digit.
+abbrev pub mostBytes : Holds → ℕ
+mostBytes Id = longestId
+mostBytes Name = longestName
+mostBytes Letter = 1
+mostBytes (Natural most) = most
+mostBytes (Signed most) = most + 1
+
+-- Those of all fields, with a comma after each.
+abbrev pub withCommas : List Column → ℕ
+withCommas [] = 0
+withCommas (c ∷ cs) = mostBytes (held c) + 1 + withCommas cs
+
+-- So many bytes a line has at most whose fields keep their rules: there is no comma after the last.
+abbrev pub longestByFields : List Column → ℕ
+longestByFields columns = withCommas columns - 1
 
 -- ---- what a row says
 -- An id as its bytes, a name as its number, a letter as its byte, a number from 0 up as a count and one of either sign as an integer.

@@ -1,14 +1,14 @@
--- What is promised of numbers: written and read back, and read and written back, they are the same; and of the field that a fault names.
+-- What is promised of numbers: written and read back, and read and written back, they are the same; of the field that a fault names; and of how long a line is.
 use mathlib.Core.Path.{_≡_}
 use mathlib.Core.Bool.{true, false}
-use mathlib.Core.List.{List}
-use mathlib.Core.Option.{some}
+use mathlib.Core.List.{List, map}
+use mathlib.Core.Option.{none, some}
 use Prim.Native.Nat.{ℕ, _-_, _^_, _<_, _≤_}
 use lib.ListN.{length}
 use lib.IntN.{ℤ, natAbs}
 use Rattle.text.specs.Fields.{fields}
 use Rattle.text.specs.declared.columns.Fault.the-variants.{Broken}
-use Rattle.text.specs.Columns.{Column, columnAt, longestLine, rule, fieldAt, faultOf}
+use Rattle.text.specs.Columns.{Column, held, columnAt, longestLine, rule, fieldAt, firstBroken, faultOf, longestByFields}
 use Rattle.text.specs.Numbers.{isNumber, valueOf, isSigned, signedOf}
 use Rattle.text.specs.Decimal.{decimal, signedDecimal}
 
@@ -37,3 +37,9 @@ pub record FirstToBreak (columns : List Column) (line : List ℕ) (number : ℕ)
 
 abbrev pub FirstNamed : Type 0
 FirstNamed = (columns : List Column) (line : List ℕ) (number : ℕ) → faultOf columns line ≡ some (Broken number) → FirstToBreak columns line number
+
+-- A line with a field for each column, each of which keeps its rule, is no longer than these may be, whatever the longest line is.
+abbrev pub FieldsShort : Type 0
+FieldsShort =
+    (columns : List Column) (line : List ℕ) → length (fields line) ≡ length columns → firstBroken 1 (map held columns) (fields line) ≡ none
+    → length line ≤ longestByFields columns

@@ -14,9 +14,9 @@ use Rattle.reading.proofs.Demand.{answers-close, answers-ordered}
 use Rattle.reading.proofs.Whole.{accepted-reads}
 use Rattle.entry.specs.Entry.{isFree, isLive}
 use Rattle.examination.specs.Answering.{readEntry}
-use Rattle.examination.proofs.Readings.{past-20}
+use Rattle.examination.proofs.Readings.{past-20, entry-widens}
 use Rattle.register.specs.Table.{entryOf, badTable}
-use Rattle.register.specs.Promised.{ReadsLive, HeldGood, ThroughGood, ThroughLaw, ThroughClose, ThroughOrdered}
+use Rattle.register.specs.Promised.{ReadsLive, HeldGood, ThroughGood, ThroughLaw, ThroughClose, ThroughOrdered, ThroughWidens}
 use Rattle.register.proofs.lists.TableEntries.{member-fails, entry-there}
 use Rattle.register.proofs.lists.PlacedEntries.{bad}
 use Rattle.register.proofs.lists.PassedTests.{good-fault, good-table-sound}
@@ -57,3 +57,7 @@ through-close table n r r0 o s l h c = answers-close (entryOf table n .certifica
 pub through-ordered : ThroughOrdered
 through-ordered table n r r′ r0 o o′ h h′ c c′ l =
     answers-ordered (entryOf table n .certificate) r r′ r0 o o′ (reads-live table n r r0 o h c .1) (reads-live table n r′ r0 o′ h′ c′ .1) c c′ l
+
+-- ---- a larger resistance allowed
+pub through-widens : ThroughWidens
+through-widens table n = entry-widens (badTable table) (entryOf table n)

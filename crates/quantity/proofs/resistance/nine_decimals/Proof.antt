@@ -14,9 +14,9 @@ mul-millionfold c = search needs
 div-result : tie.Need-div-result
 div-result c = search needs
 
--- six decimals of a ratio of at most 10^4
-first : (c : tie.Start) → c .args .r * 1_000_000 / c .args .r0 < 10_000_000_001
-first c = quotient-below (c .args .r * 1_000_000) (c .args .r0) 10_000_000_001 (omega arith) (omega arith)
+-- six decimals of a ratio of at most 10^5
+first : (c : tie.Start) → c .args .r * 1_000_000 / c .args .r0 < 100_000_000_001
+first c = quotient-below (c .args .r * 1_000_000) (c .args .r0) 100_000_000_001 (omega arith) (omega arith)
 
 -- what is left is below the divisor
 left : (c : tie.Start) → c .args .r * 1_000_000 % c .args .r0 < c .args .r0

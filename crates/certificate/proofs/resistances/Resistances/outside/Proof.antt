@@ -3,7 +3,7 @@ use borrow.Author.Needs.{needs}
 use mathlib.Core.List.{[], _∷_}
 use Rattle.whole.proofs.Any.{from-left}
 use Rattle.law.specs.declared.cell.Cell.the-variants.{Hg, Ga, In, Sn, Zn, Al, Ag}
-use Rattle.certificate.specs.Resistances.{cellOutside, outside}
+use Rattle.certificate.specs.Resistances.{cellOutside, outsideUpTo}
 use Rattle.certificate.proofs.resistances.Resistances.outside.Statement.{statement}
 use Rattle.certificate.proofs.resistances.Resistances.outside.Tie as tie
 
@@ -29,7 +29,7 @@ is-outside-requires-7 : tie.Need-is-outside-requires-7
 is-outside-requires-7 c κs = search needs
 
 returns : tie.Need-returns
-unfolding outside
+unfolding outsideUpTo
 returns c =
     let al = c .before in
     let zn = al .before in
