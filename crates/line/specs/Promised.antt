@@ -79,6 +79,7 @@ pub record LinesKept (kind : Kind) (room : ℕ) : Type 0 where
   pub had-answer : HadAnswer kind
 
 -- ---- wider limits of a resistance
+-- A line that was refused by 1 or by 14 may be answered otherwise under wider ones.
 abbrev pub mayMove : ℕ → Bool
 mayMove number = eqb number (numberOf ResistanceOutside) || eqb number (numberOf FieldBroken)
 
