@@ -1,7 +1,7 @@
 -- Wider limits of a resistance: of a list's lines only those move that were refused by 1 or by 14.
-use mathlib.Core.Path.{_≡_, refl, sym, ap, _∙_, subst}
-use mathlib.Core.Bool.{Bool, true, false, true≢false, _||_}
-use mathlib.Core.List.{List, [], _∷_}
+use mathlib.Core.Path.{_≡_, refl, sym, _∙_, subst}
+use mathlib.Core.Bool.{true, false, true≢false}
+use mathlib.Core.List.{List}
 use mathlib.Core.Option.{Option, none, some, Option·none-ne-some}
 use Prim.Native.Nat.{ℕ, _≤_}
 use native.Mathlib.Omega.{arith}
@@ -9,11 +9,11 @@ use lib.Dec.{eqb}
 use borrow.Author.Tests.{eq-eqb}
 use Rattle.whole.proofs.Any.{or-false}
 use Rattle.quantity.specs.Refusals.{numberOf}
-use Rattle.quantity.specs.Outcomes.{Outcome, Rule, Follows}
+use Rattle.quantity.specs.Outcomes.{Rule, Follows}
 use Rattle.quantity.specs.Promised.{OnlyOnesMove}
 use Rattle.text.specs.declared.columns.Holds.the-variants.{Id, Name, Natural, Signed}
 use Rattle.text.specs.declared.columns.Fault.{Fault}
-use Rattle.text.specs.declared.columns.Fault.the-variants.{TooLong, WrongCount, Broken}
+use Rattle.text.specs.declared.columns.Fault.the-variants.{Broken}
 use Rattle.text.specs.Columns.{Column, Value, headerOf, faultOf, values, fieldAt, countAt}
 use Rattle.text.proofs.Round.{number-read-back}
 use Rattle.text.proofs.Widening.{AllEased, none-left, eased, as-it-was, more-digits, fault-stays, row-says}

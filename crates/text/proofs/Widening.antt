@@ -1,8 +1,8 @@
 -- Columns that take more: of a line only a broken field moves, and a row says what it said.
-use mathlib.Core.Path.{_≡_, refl, sym, ap, ap₂, _∙_}
+use mathlib.Core.Path.{_≡_, refl, sym, ap₂}
 use mathlib.Core.Bool.{Bool, true, false, _&&_, not}
 use mathlib.Core.List.{List, [], _∷_, map}
-use mathlib.Core.Option.{Option, none, some}
+use mathlib.Core.Option.{some}
 use Prim.Native.Nat.{ℕ, _+_, _≤_}
 use native.Mathlib.Omega.{arith}
 use lib.Dec.{leb, ltb, eqb}
@@ -12,7 +12,6 @@ use Rattle.whole.specs.Choice.{if_then_else_}
 use Rattle.whole.proofs.Choice.{and-true}
 use Rattle.text.specs.declared.columns.Holds.{Holds}
 use Rattle.text.specs.declared.columns.Holds.the-variants.{Natural}
-use Rattle.text.specs.declared.columns.Fault.{Fault}
 use Rattle.text.specs.declared.columns.Fault.the-variants.{TooLong, WrongCount, Broken}
 use Rattle.text.specs.Fields.{fields, sized, every, digit}
 use Rattle.text.specs.Numbers.{leadingZero}
