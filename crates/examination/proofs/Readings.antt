@@ -5,7 +5,7 @@ use mathlib.Core.List.{_∷_}
 use mathlib.Core.Option.{Option, none, some}
 use Prim.Native.Nat.{ℕ}
 use Rattle.quantity.specs.Quantities.{ratioOf}
-use Rattle.quantity.specs.Outcomes.{Outcome, _gives_, Follows, ifNamed}
+use Rattle.quantity.specs.Outcomes.{Outcome, _gives_, Rule, Follows, ifNamed}
 use Rattle.quantity.specs.Promised.{OnlyOnesMove, Widens}
 use Rattle.quantity.proofs.Widening.{none-moves, ratio-among}
 use Rattle.law.specs.declared.laws.Law.{Law}
@@ -32,14 +32,17 @@ given-zeros k r r0 = by (lawNamed (k .law .0))
 pub past-20 : (held : Entry) (r r0 : ℕ) (o : Outcome LawAndStep) → isLive held ≡ true → Follows (readEntry false held r r0) o → Follows (readGiven (held .certificate) r r0) o
 past-20 held r r0 o live h = rw (given-zeros (held .certificate) r r0) (rw live at h)
 
--- a larger resistance allowed, only what was refused by 1 moves
+-- ---- a larger resistance allowed
+-- a reading by what is held, whatever its law's name names
+abbrev entryBy : Bool → Entry → ℕ → ℕ → ℕ → Option Law → Rule LawAndStep
+entryBy bad held r r0 largest named =
+    let rule = ifNamed noStep named (λ law. readCertificateUpTo largest (certificateOf law (held .certificate)) r r0) in
+    record { tests = bad gives 23 ∷ not (isLive held) gives 20 ∷ rule .tests; zeros = noStep; Answer = rule .Answer }
+
 pub entry-widens : (bad : Bool) (held : Entry) (r r0 : ℕ) → Widens (λ largest. readEntryUpTo largest bad held r r0)
 entry-widens bad held r r0 largest larger h = by (lawNamed (held .certificate .law .0))
   where
-    by : (named : Option Law)
-        → OnlyOnesMove
-        (let rule = ifNamed noStep named (λ law. readCertificateUpTo largest (certificateOf law (held .certificate)) r r0) in record { tests = bad gives 23 ∷ not (isLive held) gives 20 ∷ rule .tests; zeros = noStep; Answer = rule .Answer })
-        (let rule = ifNamed noStep named (λ law. readCertificateUpTo larger (certificateOf law (held .certificate)) r r0) in record { tests = bad gives 23 ∷ not (isLive held) gives 20 ∷ rule .tests; zeros = noStep; Answer = rule .Answer })
+    by : (named : Option Law) → OnlyOnesMove (entryBy bad held r r0 largest named) (entryBy bad held r r0 larger named)
     by none = none-moves _ (λ a b p q. absurd p)
     by (some law) =
         let k = certificateOf law (held .certificate) in

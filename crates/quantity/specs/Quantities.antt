@@ -15,7 +15,7 @@ largestResistance = 10 ^ 13
 abbrev pub leastDivisor : ℕ
 leastDivisor = 10 ^ 8
 
--- Up to a largest resistance, which is a parameter of each rule that asks for it: so what request 9 moved when it raised it can be said.
+-- Up to a largest resistance. It is a parameter of each rule that asks for it, so that what moved when request 9 raised the limit can be stated.
 abbrev pub isReadingUpTo : ℕ → ℕ → Bool
 isReadingUpTo largest r = leb 1 r && leb r largest
 
