@@ -1,4 +1,4 @@
-/* The job of launchlist, as it is commonly done: whole numbers are read, worked in binary64 and rounded down at the end.
+/* The job of launchlist, as it is commonly done: whole numbers are read, worked in binary64 and rounded at the end.
  *
  * Reads a list of readings from standard input and answers it on standard output, with the same field rules and the same
  * refusals. Nothing is proved of it, and its temperatures are not exact: see README.md. It is here to be measured against. */
@@ -320,7 +320,7 @@ static int read_temperature(const struct reading *it, int32_t *steps)
     if (it->r < 1 || it->r > RESISTANCE_MOST || it->r0 < DIVISOR_LEAST || it->r0 > RESISTANCE_MOST)
         return BAD_RESISTANCE;
 
-    double units = floor((double)it->r * 1e9 / (double)it->r0);
+    double units = floor((double)it->r * 1e9 / (double)it->r0 + 0.5);
     if (units > 4400000000.0)
         return RATIO_TOO_HIGH;
     double w = units / 1e9;

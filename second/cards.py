@@ -105,7 +105,7 @@ CARDS = (
     (9, reads_none, ZERO_CURVE, 4_400_000_001, 2),
     (9, reads_none, ZERO_AG, 4_400_000_000, 9),
     (9, reads_none, ZERO_AG, 4_400_000_001, 2),
-    (9, divides, 2, 3 * 10**8, 6),
+    (9, divides, 2, 3 * 10**8, 7),
     (10, judges, 0, 1_500, True),
     (10, judges, 0, 1_501, False),
     (10, judges, 0, -1_500, True),

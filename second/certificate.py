@@ -161,7 +161,7 @@ def certify(name, ratios):
 def ratios_of(resistances, most):
     """W by cell of the cells measured, or Refused 1 for a cell outside the limits.
 
-    A W that is rounded down to 0 stands for not measured, as in every record.
+    A W that is rounded to 0 stands for not measured, as in every record.
     """
     pairs = {c: pair for c, pair in resistances.items() if pair != NO_RESISTANCES}
     given_cells = [cell for cell in CELLS if cell in pairs]

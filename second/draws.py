@@ -3,6 +3,7 @@ resistances, and the edges that are drawn from.
 """
 
 from itertools import product as pairings
+from math import gcd
 
 import curve
 from certificate import (
@@ -326,8 +327,9 @@ def least_ratio(law, places, step):
 
 
 def most_divisor(w):
-    """The largest R0 by which R has this ratio."""
-    return min(RESISTANCE_MOST, RESISTANCE_MOST * RATIO_ONE // w)
+    """The largest R0 by which R has this ratio: the most that R may be is half a unit
+    under it or higher."""
+    return min(RESISTANCE_MOST, 2 * RESISTANCE_MOST * RATIO_ONE // (2 * w - 1))
 
 
 def any_divisor(generator, most):
@@ -337,8 +339,9 @@ def any_divisor(generator, most):
 
 
 def least_by(w, r0):
-    """The least R that has this ratio or more by R0, and R0."""
-    return -(-w * r0 // RATIO_ONE), r0
+    """The least R that has this ratio or more by R0, half a unit under it or higher;
+    and R0."""
+    return -(-(2 * w - 1) * r0 // (2 * RATIO_ONE)), r0
 
 
 def resistances(generator, w):
@@ -365,6 +368,66 @@ def near_kilohm(generator):
     return KILOHM + (generator.under(4) > 0) * around(generator, KILOHM_OFF)
 
 
+# Ratios of whole units and a half, and next to these.
+
+TWO_ONES = 2 * RATIO_ONE
+
+EXACTLY, OVER, UNDER = 0, 1, -1
+
+
+def divisor_about_half(generator, w, side, least, most):
+    """An R0 within these limits by which some R is exactly half a unit under this
+    ratio, next over that, or next under: the least such R0, the largest, or any.
+
+    Exactly there R * 2 * 10^9 is R0 * (2 w - 1). Next to it the one differs from the
+    other by what divides both factors.
+    """
+    common = gcd(TWO_ONES, 2 * w - 1)
+    period = TWO_ONES // common
+    first = -side * pow((2 * w - 1) // common, -1, period) % period
+    low = -(-(least - first) // period)
+    high = (most - first) // period
+    n = generator.under(high - low + 1)
+    free = low + n // 10 ** (n % 4)
+    return first + period * (low, high, free)[generator.under(3)]
+
+
+# Of the divisors in use those by which there is such a half at every unit.
+HALVED_IN_USE = tuple(r0 for r0 in DIVISORS if r0 % TWO_ONES == 0)
+
+
+def about(r, r0):
+    """One nanoohm less, just these, and one more."""
+    return (r - 1, r0), (r, r0), (r + 1, r0)
+
+
+def about_half(generator, w):
+    """The least R that has this ratio, and a nanoohm less and more, by an R0 by which
+    some R is half a unit under the ratio or next to that."""
+    side = (EXACTLY, EXACTLY, OVER, UNDER)[generator.under(4)]
+    free = divisor_about_half(generator, w, side, DIVISOR_LEAST, most_divisor(w + 1))
+    in_use = HALVED_IN_USE[generator.under(len(HALVED_IN_USE))]
+    of_three = generator.under(3)
+    r0 = in_use if side == EXACTLY and of_three == 0 else free
+    return about(*least_by(w, r0))
+
+
+# By the multiples of this there are halves at some units, by other divisors at none.
+HALVING = 1024
+HALVING_LEAST = -(-DIVISOR_LEAST // HALVING) * HALVING
+
+
+def near_half(generator, w):
+    """R and R0 whose ratio is a half and the next one under this ratio, and R a
+    nanoohm less and more; R0 is the least by which there are halves, or any."""
+    free = any_divisor(generator, most_divisor(w + 1)) // HALVING * HALVING
+    r0 = (HALVING_LEAST, max(HALVING_LEAST, free))[generator.under(2)]
+    # The halves are the odd multiples of this R.
+    r = r0 // gcd(r0, TWO_ONES)
+    n = (2 * w - 1) * r0 // (TWO_ONES * r)
+    return about((n - 1 + n % 2) * r, r0)
+
+
 # Each limit of R and of R0 with its neighbours, now and before.
 EDGES_ABOVE = (
     RESISTANCE_MOST_BEFORE,
@@ -388,7 +451,8 @@ EDGE_PAIRS = tuple(pairings(EDGE_R, EDGE_R0))
 
 def past_most(r0):
     """The least R that is over 4.4."""
-    return -(-(RATIO_MOST + 1) * r0 // RATIO_ONE)
+    r, _ = least_by(RATIO_MOST + 1, r0)
+    return r
 
 
 def by_ohms(generator, w):
@@ -396,7 +460,8 @@ def by_ohms(generator, w):
     to 2200."""
     turn, n = divmod(generator.under(20 * 220), 220)
     m = 1 + n if turn < 10 else 1 + 10 * n + turn % 10
-    return w * m + generator.under(m), m * RATIO_ONE
+    # A unit is m nanoohms, from half of one under the ratio on.
+    return w * m - m // 2 + generator.under(m), m * RATIO_ONE
 
 
 # Both ends of the curve, 0 °C and the limit 4.4, each with its neighbour.

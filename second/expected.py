@@ -7,7 +7,6 @@ import sys
 sys.dont_write_bytecode = True
 
 import subprocess
-from collections import Counter
 from functools import partial
 from itertools import zip_longest
 from pathlib import Path
@@ -29,7 +28,9 @@ from faults import refused_lines
 from limit_lines import limit_lines
 from lists import BEFORE, LISTS, READINGS, answer, lines_of, list_of
 from messages import MENDING, said, shown
-from promises import check_moved
+from moves import check_moved
+from nearest_lines import nearest_lines
+from promises import Survey
 from quantity import Refused, kelvin, quotient_down, ratio
 from reading import deviation_at
 from reference import BELOW, PAST, PAST_TOP, TOP, inverse, working
@@ -58,11 +59,11 @@ def example_list(name):
 
 
 def example_answer(name):
-    """The answer, with nothing in it moved by the limits of R and R0 that may not."""
+    """The answer, with nothing in it moved that may not."""
     data = example_list(name)
     made = answer(EXAMPLES[name], data)
     for line, due in list(zip(lines_of(data), lines_of(made)))[1:]:
-        check_moved(list_of(EXAMPLES[name], data), line, due, Counter())
+        check_moved(list_of(EXAMPLES[name], data), line, due, Survey())
     return made
 
 
@@ -420,9 +421,11 @@ IS_WATER = ("ga", 100)
 SELF_CHECKS = (
     ("card 1: working value at 0 °C", 99_996_011_000, working, 0),
     ("card 2: working value at 481 °C", 278_157_254_000, working, 4_810_000),
-    ("card 9: R = 2, R0 = 3*10^8", 6, ratio, 2, 3 * 10**8),
+    ("card 9: R = 2, R0 = 3*10^8", 7, ratio, 2, 3 * 10**8),
+    ("half of it, 3.33 units", 3, ratio, 1, 3 * 10**8),
     ("card 9: 4.4 exactly is a ratio", 4_400_000_000, ratio, 440 * 10**9, 10**11),
-    ("under a unit above 4.4", 4_400_000_000, ratio, 440 * 10**9 + 99, 10**11),
+    ("under half a unit above 4.4", 4_400_000_000, ratio, 440 * 10**9 + 49, 10**11),
+    ("half a unit above 4.4", "refused 2", ratio, 440 * 10**9 + 50, 10**11),
     ("card 9: one unit more", "refused 2", ratio, 440 * 10**9 + 100, 10**11),
     ("refusal 1 goes before 2", "refused 1", ratio, 10**13, 10**8 - 1),
     ("R and R0 at the most", 1_000_000_000, ratio, 10**13, 10**13),
@@ -433,11 +436,12 @@ SELF_CHECKS = (
     ("R0 by it", "refused 1", ratio, 10**12, 10**12 + 1, 10**12),
     ("both at it", 1_000_000_000, ratio, 10**12, 10**12, 10**12),
     ("R at the most, R0 at the least", "refused 2", ratio, 10**13, 10**8),
-    ("R at the most, W = 4.4", 4_400_000_000, ratio, 10**13, 2_272_727_272_211),
-    ("one unit more", "refused 2", ratio, 10**13, 2_272_727_272_210),
-    ("R0 at the most", 999_999_999, ratio, 10**13 - 1, 10**13),
-    ("the least ratio over 0", 1, ratio, 10**4, 10**13),
-    ("less", 0, ratio, 10**4 - 1, 10**13),
+    ("R at the most, W = 4.4", 4_400_000_000, ratio, 10**13, 2_272_727_272_470),
+    ("one unit more", "refused 2", ratio, 10**13, 2_272_727_272_469),
+    ("R0 at the most", 10**9, ratio, 10**13 - 5000, 10**13),
+    ("one unit less", 999_999_999, ratio, 10**13 - 5001, 10**13),
+    ("the least ratio over 0", 1, ratio, 5000, 10**13),
+    ("less", 0, ratio, 4999, 10**13),
     ("quotient -1/2", -1, quotient_down, -1, 2),
     ("quotient 1/-2", -1, quotient_down, 1, -2),
     ("quotient -1/-2", 0, quotient_down, -1, -2),
@@ -473,10 +477,10 @@ SELF_CHECKS = (
     ("B at 850 °C", LIMIT_PASSES, about_limit, CLASS_B, 8_500_000, 45_500),
     ("A, limit 1,500.998 steps", LIMIT_PASSES, about_limit, CLASS_A, 499, 1_500),
     ("A, limit 1,501 steps", LIMIT_PASSES, about_limit, CLASS_A, -500, 1_501),
-    ("A, upper limit", (True, 1_500), tolerance, CLASS_A, 0, 100_058_662_299, 10**11),
-    ("A, past it", (False, 1_501), tolerance, CLASS_A, 0, 100_058_662_300, 10**11),
-    ("A, lower limit", (True, -1_500), tolerance, CLASS_A, 0, 99_941_374_300, 10**11),
-    ("A, past it", (False, -1_501), tolerance, CLASS_A, 0, 99_941_374_299, 10**11),
+    ("A, upper limit", (True, 1_500), tolerance, CLASS_A, 0, 100_058_662_249, 10**11),
+    ("A, past it", (False, 1_501), tolerance, CLASS_A, 0, 100_058_662_250, 10**11),
+    ("A, lower limit", (True, -1_500), tolerance, CLASS_A, 0, 99_941_374_250, 10**11),
+    ("A, past it", (False, -1_501), tolerance, CLASS_A, 0, 99_941_374_249, 10**11),
     # The class bounds the bath; the reading keeps the curve's own range.
     (
         "A, bath at 650 °C, reading 651 °C",
@@ -701,7 +705,7 @@ SELF_CHECKS = (
         reading.tolerance,
         CLASS_A,
         0,
-        100_058_662_299,
+        100_058_662_249,
         10**11,
     ),
     ("no class", "refused 3", reading.tolerance, ord("C"), 0, 10**11, 10**11),
@@ -793,8 +797,11 @@ SELF_CHECKS = (
     # W = 1, then card 7; card 9 with R0 100 ohm.
     ("0 °C", "F1,curve,0,0", answers, row(r="100000000000")),
     ("-200 °C", "F1,curve,-2000000,0", answers, row(r="18520080000")),
-    ("below it", "F1,curve,,8", answers, row(r="18520079999")),
+    ("half a unit less", "F1,curve,-2000000,0", answers, row(r="18520079950")),
+    ("below it", "F1,curve,,8", answers, row(r="18520079949")),
     ("W = 4.4", "F1,curve,,9", answers, row(r="440000000000")),
+    ("under half a unit more", "F1,curve,,9", answers, row(r="440000000049")),
+    ("half a unit more", "F1,curve,,2", answers, row(r="440000000050")),
     ("one unit more", "F1,curve,,2", answers, row(r="440000000100")),
     ("R = 0", "F1,curve,,1", answers, row(r="0")),
     ("line, 14 before 3", "?,?,5,14", answers, row(law="pt", a="-0")),
@@ -983,14 +990,19 @@ SELF_CHECKS = (
         *(bench, RESISTANCES, "R1,ga,0,0,27951750000,25000000000" + FIVE_NOT_MEASURED),
     ),
     (
-        "24 nanoohm more, not yet a unit",
+        "12 nanoohm more, not yet half a unit",
         "R1,ga,-58346744,0,0,0,0,0",
-        *(bench, RESISTANCES, "R1,ga,0,0,27951750024,25000000000" + FIVE_NOT_MEASURED),
+        *(bench, RESISTANCES, "R1,ga,0,0,27951750012,25000000000" + FIVE_NOT_MEASURED),
     ),
     (
-        "one nanoohm less",
+        "12 nanoohm less",
+        "R1,ga,-58346744,0,0,0,0,0",
+        *(bench, RESISTANCES, "R1,ga,0,0,27951749988,25000000000" + FIVE_NOT_MEASURED),
+    ),
+    (
+        "13 nanoohm less",
         "R1,ga,,,,,,6",
-        *(bench, RESISTANCES, "R1,ga,0,0,27951749999,25000000000" + FIVE_NOT_MEASURED),
+        *(bench, RESISTANCES, "R1,ga,0,0,27951749987,25000000000" + FIVE_NOT_MEASURED),
     ),
     (
         "R without R0",
@@ -1017,11 +1029,16 @@ SELF_CHECKS = (
         "R1,ga,,,,,,2",
         *(bench, RESISTANCES, "R1,ga,1000000000000,100000000,0,0" + FIVE_NOT_MEASURED),
     ),
-    # 1/10^12 is rounded down to 0, which is not measured.
+    # 499/10^12 is rounded to 0, which is not measured, and 500/10^12 is not.
     (
         "a ratio of 0",
         "R1,ga,,,,,,4",
-        *(bench, RESISTANCES, "R1,ga,0,0,1,1000000000000" + FIVE_NOT_MEASURED),
+        *(bench, RESISTANCES, "R1,ga,0,0,499,1000000000000" + FIVE_NOT_MEASURED),
+    ),
+    (
+        "a ratio of a unit",
+        "R1,ga,,,,,,6",
+        *(bench, RESISTANCES, "R1,ga,0,0,500,1000000000000" + FIVE_NOT_MEASURED),
     ),
     (
         "200 bytes",
@@ -1074,12 +1091,12 @@ SELF_CHECKS = (
     (
         "A passes",
         "S1,A,pass,1500,0",
-        *(bench, TOLERANCE, "S1,A,0,100058662299,100000000000"),
+        *(bench, TOLERANCE, "S1,A,0,100058662249,100000000000"),
     ),
     (
         "A fails",
         "S1,A,fail,-1501,0",
-        *(bench, TOLERANCE, "S1,A,0,99941374299,100000000000"),
+        *(bench, TOLERANCE, "S1,A,0,99941374249,100000000000"),
     ),
     ("class in lower case", "S1,a,,,3", bench, TOLERANCE, "S1,a,8500001,0,0"),
     ("bath of A", "S1,A,,,9", bench, TOLERANCE, "S1,A,6500001,0,0"),
@@ -1244,8 +1261,8 @@ def self_check():
             raise CheckFailed(f"{what}: {found}, due {due}")
     for one in LISTS.values():
         # Each of these lines is tested where it is given.
-        for line in (*refused_lines(one), *limit_lines(one)):
-            check_moved(one, line, one.answer_line(line), Counter())
+        for line in (*refused_lines(one), *limit_lines(one), *nearest_lines(one)):
+            check_moved(one, line, one.answer_line(line), Survey())
         for damaged in damage.broken_cases(one, lambda: GOOD[one]):
             damage.check_damaged(one, damaged)
 

@@ -14,7 +14,7 @@ import reading_families
 import record_families
 import tolerance_families
 from cases import CheckFailed
-from certificate import CELLS
+from certificate import CELLS, LAWS
 from family import check_family, part, parts
 from lists import (
     FORWARD,
@@ -26,6 +26,7 @@ from lists import (
     WRONG_LENGTH,
     code_of,
 )
+from moves import FROM_LAST, NEXT_STEP, OVER_MOST, TO_FIRST
 from promises import Survey, check_seen, in_thousandths
 
 FAMILIES = (
@@ -95,6 +96,15 @@ MOVED = {
 }
 MOVED_LEAST = 20
 
+# How lines of the families moved with the rounding of the ratio, by law and by class;
+# where the error of a tolerance test is one step more, the verdicts.
+VERDICTS = ("pass to pass", "pass to fail", "fail to pass", "fail to fail")
+ROUNDED = {
+    READINGS: (LAWS, (NEXT_STEP, TO_FIRST, FROM_LAST, OVER_MOST)),
+    TOLERANCE: ("AB", (*VERDICTS, TO_FIRST, FROM_LAST, OVER_MOST)),
+}
+ROUNDED_LEAST = 100
+
 
 def check_orders(orders):
     for call, firsts in ORDERS.items():
@@ -133,6 +143,17 @@ def check_moved(moved):
     check_seen("moved lines", moved, least)
 
 
+def check_rounded(rounded):
+    """That the rounding of the ratio moved lines in each way that it can."""
+    least = {
+        (one.name, label, way): ROUNDED_LEAST
+        for one, (labels, ways) in ROUNDED.items()
+        for label in labels
+        for way in ways
+    }
+    check_seen("lines moved by rounding", rounded, least)
+
+
 def tell():
     """Tells what each family met."""
     met = Survey()
@@ -160,10 +181,13 @@ def tell():
         print(f"{name}, code {code}: {count}")
     for (name, was, now), count in sorted(met.moved.items()):
         print(f"{name}, moved from {was} to {now}: {count}")
+    for (name, label, way), count in sorted(met.rounded.items()):
+        print(f"{name}, {label}, moved by rounding, {way}: {count}")
     check_orders(met.orders)
     check_cells(met.cells)
     check_codes(codes)
     check_moved(met.moved)
+    check_rounded(met.rounded)
 
 
 if __name__ == "__main__":

@@ -8,7 +8,8 @@ from typing import NamedTuple
 
 from cases import CheckFailed, Generator
 from lists import LINE_MOST, WRONG_LENGTH, LineFault, List, line_of
-from promises import check_moved, check_seen
+from moves import check_moved
+from promises import check_seen
 
 
 class Line(NamedTuple):
@@ -100,7 +101,7 @@ def part(family, first, survey):
             text, name = named_line(family, i, place, line)
             check_made(line.one, text, name, line.values)
             due = due_line(line, text, name)
-            check_moved(line.one, text, due, survey.moved)
+            check_moved(line.one, text, due, survey)
             made.setdefault(line.one, []).append((text, due))
     for one, lines in made.items():
         for text, due in lines[::CHECKED_EVERY]:

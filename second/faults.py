@@ -136,9 +136,9 @@ OUTSIDE = (
     *(NO_R, NO_R0, (R0, 10**8 - 1), (10**13 + 1, R0), (R0, 10**13 + 1)),
     *((0, 1), (1, 0)),
 )
-# Have a ratio that is rounded down to 0.
+# Have a ratio that is rounded to 0.
 TINY = (1, 10**12)
-TINIER = (9999, 10**13)
+TINIER = (4999, 10**13)
 
 BY_RESISTANCES = (
     *(Fault("ag", {cell: pair}, 1, cell) for cell, pair in zip(CELLS, OUTSIDE)),
@@ -150,9 +150,10 @@ BY_RESISTANCES = (
     Fault("zn", {"Sn": 0, "Al": NO_R0}, 1, "Al"),
     Fault("sn", {"Hg": 0, "Ga": 0, "Sn": NO_R}, 1, "Sn"),
     Fault("in", {"Hg": HG, "Ga": GA, "In": NO_R0}, 1, "In"),
-    # By the ratios, rounded down.
+    # By the ratios, rounded: a unit is 25 nanoohm.
     Fault("ag", {"Ag": (ABOVE * 25, R0)}, 2, "Ag"),
-    Fault("ag", {"Ag": (ABOVE * 25 - 1, R0)}, 7, "Ag"),
+    Fault("ag", {"Ag": (ABOVE * 25 - 12, R0)}, 2, "Ag"),
+    Fault("ag", {"Ag": (ABOVE * 25 - 13, R0)}, 7, "Ag"),
     Fault("in", {"In": TINY}, 4, "In"),
     Fault("ag", {"Sn": TINY, "Ag": TINY}, 4, "Sn"),
     Fault("in", {"Hg": TINY, "Ga": GA}, 6, "Ga"),
@@ -164,8 +165,8 @@ BY_RESISTANCES = (
     Fault("ga", {"Hg": (10**13, 10**13), "Ag": (10**13, 10**13 + 1)}, 1, "Ag"),
     Fault("ag", {"Hg": (10**12 + 1, R0)}, 2, "Hg"),
     Fault("ag", {"Zn": (10**13, 10**8)}, 2, "Zn"),
-    Fault("in", {"In": (10**13, 2272727272210)}, 2, "In"),
-    Fault("in", {"In": (10**13, 2272727272211)}, 7, "In"),
+    Fault("in", {"In": (10**13, 2272727272469)}, 2, "In"),
+    Fault("in", {"In": (10**13, 2272727272470)}, 7, "In"),
     Fault("zn", {"Sn": TINIER}, 4, "Sn"),
     Fault("in", {"Hg": TINIER, "Ga": TINIER}, 5),
     Fault("in", {"Hg": (1, 10**13), "Ga": (GA * 10**3, 10**12)}, 6, "Ga"),

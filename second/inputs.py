@@ -15,6 +15,7 @@ from faults import REFUSED, refused_lines
 from limit_lines import limit_lines
 from lists import BEFORE, COMMA, FORWARD, LINE_END
 from messages import SAID_MOST
+from nearest_lines import nearest_lines
 from samples import GOOD, NEXT, WIDEST, drawn_line
 
 SEED = 602
@@ -300,12 +301,22 @@ def limit_inputs(one):
         yield "largest R without CRLF", listed(one) + WIDEST[one]
 
 
+def nearest_inputs(one):
+    """Lists with half a unit of a ratio to be rounded."""
+    if one in BEFORE:
+        lines = list(nearest_lines(one))
+        yield "about half a unit", listed(one, *lines)
+        between = chain.from_iterable((line, GOOD[one]) for line in lines)
+        yield "about half a unit, good ones between", listed(one, *between)
+
+
 def said_inputs(one):
     """Lists about what is said of lines, each small enough to be fed slowly."""
     yield from joined_inputs(one)
     yield from refused_inputs(one)
     yield from open_inputs(one)
     yield from limit_inputs(one)
+    yield from nearest_inputs(one)
 
 
 # Lines that are shorter than their answers: those to one read are more than the

@@ -44,7 +44,9 @@ from lists import (
     code_of,
     field_of,
 )
-from promises import check_moved, check_seen
+from moves import FROM_LAST, NEXT_STEP, OVER_MOST, TO_FIRST, check_moved
+from nearest_lines import named_lines
+from promises import Survey, check_seen
 from quantity import DIVISOR_LEAST, RATIO_MOST, RESISTANCE_MOST
 from reading import CURVE, bounds
 
@@ -301,14 +303,25 @@ def longest_cases(generator):
             yield well_formed("longest", name, *asked, refused(number))
 
 
+def case_by_hand(kind, line):
+    """A line that was tested where it is given."""
+    asked = None
+    if READINGS.fault_of(line) is None:
+        _, law, r, r0, *places = READINGS.values_of(line)
+        asked = (law, places, r, r0)
+    return Case(kind, line, READINGS.answer_line(line), asked)
+
+
 def limit_cases(generator):
-    """Lines about the limits of R and R0, by hand."""
+    """Lines about the limits of R and R0."""
     for line in limit_lines(READINGS):
-        asked = None
-        if READINGS.fault_of(line) is None:
-            _, law, r, r0, *places = READINGS.values_of(line)
-            asked = (law, places, r, r0)
-        yield Case("about the limits", line, READINGS.answer_line(line), asked)
+        yield case_by_hand("about the limits", line)
+
+
+def nearest_cases(generator):
+    """Lines about half a unit of the ratio."""
+    for line in named_lines():
+        yield case_by_hand("about half a unit", line)
 
 
 # Damages.
@@ -344,6 +357,7 @@ GROUPS = (
     range_cases,
     longest_cases,
     limit_cases,
+    nearest_cases,
     damage_cases(damage.field_cases),
     byte_cases,
     damage_cases(damage.count_cases),
@@ -394,11 +408,13 @@ def check_reading(case, survey):
 # How many kinds of damage there are: one that is no longer done is missed.
 KINDS_OF_DAMAGE = 122
 
-# The numbers that lines moved from with the limits of R and R0, and those to which.
+# The numbers that lines moved from with the limits of R and R0, and those to which; and
+# the ways in which they moved with the rounding of the ratio.
 MOVES = {
     **for_each((1,), (0, 2, 8, 9), 1),
     **for_each((WRONG_FIELD,), (0, 1, 2, 3, 7, 8, 9, WRONG_FIELD), 1),
 }
+ROUNDED = dict.fromkeys((NEXT_STEP, TO_FIRST, FROM_LAST, OVER_MOST), 10)
 
 
 def check_met(cases):
@@ -420,14 +436,18 @@ def check_met(cases):
 
 
 def check_moves(cases):
-    """That no answer moved with the limits of R and R0 that may not, and what did."""
-    moved = Counter()
+    """That no answer moved that may not, and what did."""
+    survey = Survey()
     for case in cases:
-        check_moved(READINGS, case.line, case.due, moved)
-    met = Counter()
-    for (_, was, now), count in moved.items():
-        met[was, now] += count
-    check_seen("moved lines", met, MOVES)
+        check_moved(READINGS, case.line, case.due, survey)
+    moved = Counter()
+    for (_, was, now), count in survey.moved.items():
+        moved[was, now] += count
+    check_seen("moved lines", moved, MOVES)
+    rounded = Counter()
+    for (_, _, way), count in survey.rounded.items():
+        rounded[way] += count
+    check_seen("lines moved by rounding", rounded, ROUNDED)
 
 
 def stdout():
@@ -435,7 +455,7 @@ def stdout():
     cases = all_cases()
     check_met(cases)
     check_moves(cases)
-    survey = promises.Survey()
+    survey = Survey()
     for case in cases:
         if case.asked is not None:
             check_reading(case, survey)

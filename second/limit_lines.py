@@ -18,7 +18,6 @@ class Edge(NamedTuple):
 
 # 1 kΩ and the most, with what lies about them; and the R0 of some Pt1000.
 KILOHM = "1000000000000"
-KILOHM_LESS = "999999999999"
 KILOHM_MORE = "1000000000001"
 MOST = "10000000000000"
 MOST_LESS = "9999999999999"
@@ -52,22 +51,25 @@ def broken(field):
 
 
 OF_PT1000 = (
-    # 0 °C, 100 °C and -40 °C, and a nanoohm less.
+    # 0 °C, 100 °C and -40 °C by their least R, and a nanoohm less; a unit is about
+    # 1000 nanoohm here.
     Edge(read(KILOHM, KILOHM), step(0)),
-    Edge(read(KILOHM_LESS, KILOHM), step(-1)),
-    Edge(read("1385055000000", KILOHM), step(1000000), no_step(1)),
-    Edge(read("1385054999999", KILOHM), step(999999), no_step(1)),
-    Edge(read("842706521000", KILOHM), step(-400000)),
-    Edge(read("842706520999", KILOHM), step(-400001)),
+    Edge(read("999999999500", KILOHM), step(0)),
+    Edge(read("999999999499", KILOHM), step(-1)),
+    Edge(read("1385054999500", KILOHM), step(1000000), no_step(1)),
+    Edge(read("1385054999499", KILOHM), step(999999), no_step(1)),
+    Edge(read("842706520500", KILOHM), step(-400000)),
+    Edge(read("842706520499", KILOHM), step(-400001)),
     Edge(read(SOME, SOME), step(0), no_step(1)),
-    Edge(read("1000186399999", SOME), step(-1), no_step(1)),
-    Edge(read("1385313174252", SOME), step(1000000), no_step(1)),
-    Edge(read("1385313174251", SOME), step(999999), no_step(1)),
-    Edge(read("842863601496", SOME), step(-400000), no_step(1)),
-    Edge(read("842863601495", SOME), step(-400001), no_step(1)),
+    Edge(read("1000186399500", SOME), step(0), no_step(1)),
+    Edge(read("1000186399499", SOME), step(-1), no_step(1)),
+    Edge(read("1385313173752", SOME), step(1000000), no_step(1)),
+    Edge(read("1385313173751", SOME), step(999999), no_step(1)),
+    Edge(read("842863600996", SOME), step(-400000), no_step(1)),
+    Edge(read("842863600995", SOME), step(-400001), no_step(1)),
     # A nanoohm over the most of before.
     Edge(read(KILOHM_MORE, KILOHM), step(0), no_step(1)),
-    Edge(read(KILOHM, KILOHM_MORE), step(-1), no_step(1)),
+    Edge(read(KILOHM, KILOHM_MORE), step(0), no_step(1)),
     Edge(read(KILOHM_MORE, KILOHM_MORE), step(0), no_step(1)),
     Edge(read(KILOHM_MORE, "100000000"), no_step(2), no_step(1)),
     Edge(read("1", KILOHM_MORE), no_step(8), no_step(1)),
@@ -76,23 +78,23 @@ OF_PT1000 = (
 
 AT_MOST = (
     Edge(read(MOST, MOST), step(0), broken(3)),
-    Edge(read(MOST_LESS, MOST), step(-1), broken(4)),
+    Edge(read(MOST_LESS, MOST), step(0), broken(4)),
     Edge(read(MOST, MOST_LESS), step(0), broken(3)),
     Edge(read(MOST_LESS, MOST_LESS), step(0), no_step(1)),
     # 100 °C, bench cards 7 and 8, and 4.4 as in bench card 9.
-    Edge(read(MOST, "7219929894480"), step(1000000), broken(3)),
-    Edge(read(MOST, "7219929894481"), step(999999), broken(3)),
-    Edge(read("1852008000000", MOST), step(-2000000), broken(4)),
-    Edge(read("1852007999999", MOST), no_step(8), broken(4)),
-    Edge(read(MOST, "2560943055110"), step(8500000), broken(3)),
-    Edge(read(MOST, "2560943054454"), no_step(9), broken(3)),
-    Edge(read(MOST, "2272727272211"), no_step(9), broken(3)),
-    Edge(read(MOST, "2272727272210"), no_step(2), broken(3)),
-    # A ratio of 10 and of 100000, and one that is rounded down to 0.
+    Edge(read(MOST, "7219929897087"), step(1000000), broken(3)),
+    Edge(read(MOST, "7219929897088"), step(999999), broken(3)),
+    Edge(read("1852007995000", MOST), step(-2000000), broken(4)),
+    Edge(read("1852007994999", MOST), no_step(8), broken(4)),
+    Edge(read(MOST, "2560943054783"), step(8500000), broken(3)),
+    Edge(read(MOST, "2560943054782"), no_step(9), broken(3)),
+    Edge(read(MOST, "2272727272470"), no_step(9), broken(3)),
+    Edge(read(MOST, "2272727272469"), no_step(2), broken(3)),
+    # A ratio of 10 and of 100000, and one that is rounded to 0.
     Edge(read(MOST, KILOHM), no_step(2), broken(3)),
     Edge(read(MOST, "100000000"), no_step(2), broken(3)),
     Edge(read("1", MOST), no_step(8), broken(4)),
-    Edge(read("9999", MOST), no_step(8), broken(4)),
+    Edge(read("4999", MOST), no_step(8), broken(4)),
     # By certificates: W = 1, and bench card 3.
     Edge(read(MOST, MOST, law="ga"), step(100, "ga"), broken(3)),
     Edge(
@@ -100,7 +102,7 @@ AT_MOST = (
         *(step(4810000, "ag"), no_step(1, "ag")),
     ),
     Edge(
-        read(MOST, "3595088697560", "0,0,0,0,3376008600", "ag"),
+        read(MOST, "3595088698207", "0,0,0,0,3376008600", "ag"),
         *(step(4810000, "ag"), broken(3)),
     ),
 )
@@ -177,21 +179,21 @@ def broken_test(field):
 OF_CLASSES = (
     # The limits of both classes at 0 °C by 1 kΩ, and a nanoohm past them.
     Edge(
-        tested("A", 0, "1000586622999", KILOHM),
+        tested("A", 0, "1000586622499", KILOHM),
         *(verdict("A", "pass", 1500), no_verdict("A", 1)),
     ),
     Edge(
-        tested("A", 0, "1000586623000", KILOHM),
+        tested("A", 0, "1000586622500", KILOHM),
         *(verdict("A", "fail", 1501), no_verdict("A", 1)),
     ),
-    Edge(tested("A", 0, "999413743000", KILOHM), verdict("A", "pass", -1500)),
-    Edge(tested("A", 0, "999413742999", KILOHM), verdict("A", "fail", -1501)),
+    Edge(tested("A", 0, "999413742500", KILOHM), verdict("A", "pass", -1500)),
+    Edge(tested("A", 0, "999413742499", KILOHM), verdict("A", "fail", -1501)),
     Edge(
-        tested("B", 0, "1001172828999", KILOHM),
+        tested("B", 0, "1001172828499", KILOHM),
         *(verdict("B", "pass", 3000), no_verdict("B", 1)),
     ),
     Edge(
-        tested("B", 0, "1001172829000", KILOHM),
+        tested("B", 0, "1001172828500", KILOHM),
         *(verdict("B", "fail", 3001), no_verdict("B", 1)),
     ),
     Edge(
@@ -199,17 +201,17 @@ OF_CLASSES = (
         *(verdict("A", "pass", 0), no_verdict("A", 1)),
     ),
     Edge(
-        tested("B", -400000, "842863601496", SOME),
+        tested("B", -400000, "842863600996", SOME),
         *(verdict("B", "pass", 0), no_verdict("B", 1)),
     ),
     Edge(tested("B", 0, MOST, MOST), verdict("B", "pass", 0), broken_test(4)),
-    Edge(tested("A", 0, MOST_LESS, MOST), verdict("A", "pass", -1), broken_test(5)),
+    Edge(tested("A", 0, MOST_LESS, MOST), verdict("A", "pass", 0), broken_test(5)),
     Edge(tested("A", 0, MOST, "100000000"), no_verdict("A", 2), broken_test(4)),
     Edge(tested("B", 0, MOST_MORE, MOST), no_verdict("B", 1), broken_test(4)),
     Edge(tested("B", 0, MOST, MOST_MORE), no_verdict("B", 1), broken_test(4)),
     Edge(tested("B", 0, KILOHM, MOST_MORE), no_verdict("B", 1), broken_test(5)),
     Edge(tested("B", 0, "1", MOST), no_verdict("B", 8), broken_test(5)),
-    Edge(tested("B", 0, MOST, "2560943054454"), no_verdict("B", 9), broken_test(4)),
+    Edge(tested("B", 0, MOST, "2560943054782"), no_verdict("B", 9), broken_test(4)),
     Edge(tested("C", 0, MOST, MOST), no_verdict("C", 3), broken_test(4)),
     Edge(tested("A", -2000001, MOST, MOST), no_verdict("A", 8), broken_test(4)),
     Edge(tested("A", 6500001, KILOHM_MORE, KILOHM), no_verdict("A", 9)),
@@ -260,19 +262,19 @@ CARD_6 = certified("in", -16401460, 0, 0, 0, 0)
 
 OF_RECORDS = (
     # Bench cards 5 and 6 by 1 kΩ and by the most; a unit is 1000 nanoohm here.
-    Edge(record("ga", {GA: ("1118070000000", KILOHM)}), CARD_5, uncertified(1)),
-    Edge(record("ga", {GA: ("1118070000999", KILOHM)}), CARD_5, uncertified(1)),
+    Edge(record("ga", {GA: ("1118069999500", KILOHM)}), CARD_5, uncertified(1)),
+    Edge(record("ga", {GA: ("1118070000499", KILOHM)}), CARD_5, uncertified(1)),
     Edge(
-        record("ga", {GA: ("1118069999999", KILOHM)}), uncertified(6), uncertified(1)
+        record("ga", {GA: ("1118069999499", KILOHM)}), uncertified(6), uncertified(1)
     ),
-    Edge(record("ga", {GA: (MOST, "8943983829277")}), CARD_5, broken_record(5)),
-    Edge(record("ga", {GA: (MOST, "8943983829278")}), uncertified(6), broken_record(5)),
+    Edge(record("ga", {GA: (MOST, "8943983833276")}), CARD_5, broken_record(5)),
+    Edge(record("ga", {GA: (MOST, "8943983833277")}), uncertified(6), broken_record(5)),
     Edge(
         record("in", {GA: ("1118138890000", KILOHM), IN: ("1609701850000", KILOHM)}),
         *(CARD_6, uncertified(1, "in")),
     ),
     Edge(
-        record("in", {GA: (MOST, "8943432778731"), IN: (MOST, "6212330562954")}),
+        record("in", {GA: (MOST, "8943432782730"), IN: (MOST, "6212330564884")}),
         *(CARD_6, broken_record(5)),
     ),
     # Seven pairs of 13 digits fit with an id of one byte.
@@ -287,10 +289,10 @@ OF_RECORDS = (
     Edge(record("ga", {HG: ("0", MOST)}), uncertified(1), broken_record(4)),
     Edge(record("ga", {HG: (MOST, "0")}), uncertified(1), broken_record(3)),
     Edge(record("ga", {HG: (KILOHM_MORE, "0")}), uncertified(1)),
-    # A ratio that is rounded down to 0, and one unit.
-    Edge(record("ga", {GA: ("9999", MOST)}), uncertified(4), broken_record(6)),
-    Edge(record("ga", {GA: ("10000", MOST)}), uncertified(6), broken_record(6)),
-    Edge(record("ga", {GA: ("1000", KILOHM_MORE)}), uncertified(4), uncertified(1)),
+    # A ratio that is rounded to 0, and one unit.
+    Edge(record("ga", {GA: ("4999", MOST)}), uncertified(4), broken_record(6)),
+    Edge(record("ga", {GA: ("5000", MOST)}), uncertified(6), broken_record(6)),
+    Edge(record("ga", {GA: ("500", KILOHM_MORE)}), uncertified(4), uncertified(1)),
     Edge(record("pt", {GA: (MOST, MOST)}), uncertified(3, "pt"), broken_record(5)),
     Edge(record("pt", {GA: (KILOHM_MORE, KILOHM)}), uncertified(3, "pt")),
     Edge(record("ga", {HG: (KILOHM, FIFTEEN)}), broken_record(4)),
@@ -308,17 +310,23 @@ EDGES = {
 }
 
 
-def check_edge(one, edge):
-    """That a line is answered as is due, and was before."""
-    line = edge.line.encode("ascii")
-    due = edge.due, edge.before or edge.due
-    found = one.answer_line(line), BEFORE[one].answer_line(line)
-    if found != tuple(answer.encode("ascii") for answer in due):
-        raise CheckFailed(f"{line} of {one.name} gives {found}, due {due}")
+def checked_lines(one, edges, answer_before):
+    """The lines, each tested to be answered as is due, now and, by that function of the
+    list and the line, before."""
+    for edge in edges:
+        line = edge.line.encode("ascii")
+        due = edge.due, edge.before or edge.due
+        found = one.answer_line(line), answer_before(one, line)
+        if found != tuple(answer.encode("ascii") for answer in due):
+            raise CheckFailed(f"{line} of {one.name} gives {found}, due {due}")
+        yield line
+
+
+def answer_before(one, line):
+    """The answer that a line got before request 9."""
+    return BEFORE[one].answer_line(line)
 
 
 def limit_lines(one):
-    """The lines of a list, each tested to be answered as is due, now and before."""
-    for edge in EDGES.get(one, ()):
-        check_edge(one, edge)
-        yield edge.line.encode("ascii")
+    """The lines of a list."""
+    return checked_lines(one, EDGES.get(one, ()), answer_before)

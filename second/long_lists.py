@@ -6,7 +6,6 @@ come, so that no side holds more than a block.
 """
 
 import subprocess
-from collections import Counter
 from contextlib import suppress
 from itertools import zip_longest
 from pathlib import Path
@@ -16,7 +15,8 @@ import damage
 from cases import Generator
 from lists import COMMA, LINE_END, PROGRAM_OF, joined, lines_of
 from messages import first_unlike, said_of_lines, shown, written
-from promises import check_moved
+from moves import check_moved
+from promises import Survey
 from samples import drawn_line
 
 SEED = 901
@@ -41,7 +41,7 @@ def block_for(one):
         lines.append(b"%s-%d,%s" % (ROUND, i, rest))
     dues = list(map(one.answer_line, lines))
     for line, due in zip(lines, dues):
-        check_moved(one, line, due, Counter())
+        check_moved(one, line, due, Survey())
     return joined(lines), joined(dues)
 
 

@@ -24,23 +24,12 @@ from certificate import (
     deviation,
     given,
 )
-from lists import (
-    BEFORE,
-    COMMA,
-    RESISTANCE,
-    WRONG_COUNT,
-    WRONG_FIELD,
-    WRONG_LENGTH,
-    code_of,
-    field_of,
-)
 from quantity import (
     DIVISOR_LEAST,
     RATIO_MOST,
     RATIO_ONE,
     READING_LEAST,
     RESISTANCE_MOST,
-    RESISTANCE_MOST_BEFORE,
     UNITS_ONE,
     Refused,
 )
@@ -60,6 +49,8 @@ class Survey:
         # Lines whose answer moved with the limits of R and R0: the list, the number
         # given before, and the number given now.
         self.moved = Counter()
+        # And with the rounding of their ratio: the list, the law or class, and how.
+        self.rounded = Counter()
         # Demand 3 on each answered scale reading: the largest excess over the
         # result at the step answered, and under it at the next.
         self.over = None
@@ -75,6 +66,7 @@ class Survey:
         self.orders += other.orders
         self.cells += other.cells
         self.moved += other.moved
+        self.rounded += other.rounded
         if other.over is not None:
             self.note_excesses(other.over, other.under)
 
@@ -103,8 +95,25 @@ def outcome(function, *arguments):
 
 
 def ratio_of(r, r0):
-    """W, by fractions; 0 where there is no divisor."""
-    return floor(Fraction(r * RATIO_ONE, r0)) if r0 > 0 else 0
+    """W, by fractions: of the two units about R/R0 the nearer one, and the upper where
+    both are as near; 0 where there is no divisor."""
+    if r0 <= 0:
+        return 0
+    quotient = Fraction(r * RATIO_ONE, r0)
+    below = floor(quotient)
+    above = below + 1
+    return above if above - quotient <= quotient - below else below
+
+
+HALVES = ("exactly a half", "next over a half", "next under a half")
+
+
+def note_half(r, r0, seen):
+    """Counts a ratio with exactly half a unit to be rounded, and one next to that, as
+    it can be by an odd R0."""
+    over = 2 * (r * RATIO_ONE % r0) - r0
+    if abs(over) <= 1:
+        seen["rounded", HALVES[over]] += 1
 
 
 # Demand 3, in whole numbers multiplied out.
@@ -566,39 +575,3 @@ def check_tolerance(letter, bath, r, r0, answer, survey):
     if passes != (abs(error) <= whole_limit(letter, bath)):
         raise CheckFailed(f"tolerance {asked}: error {error} is misjudged")
     survey.seen[chr(letter), "pass" if passes else "fail"] += 1
-
-
-# Lines whose answer moved with the limits of R and R0, request 9.
-
-MAY_MOVE = (1, WRONG_FIELD)
-NEVER_MOVE = (WRONG_LENGTH, WRONG_COUNT)
-
-
-def over_before(one, line):
-    """Whether some R or R0 of a line is a number over the most before."""
-    fields = zip(one.kinds, line.split(COMMA))
-    numbers = [field for kind, field in fields if kind == RESISTANCE]
-    return any(n.isdigit() and int(n) > RESISTANCE_MOST_BEFORE for n in numbers)
-
-
-def may_move(one, line, before, due):
-    """Whether a line may have got the one answer before and another now: a refusal
-    by 1 or 14 then, for an R or R0 over the most of then. 14 may stay with a later
-    field, and no line has become too long or miscounted."""
-    was, now = code_of(before), code_of(due)
-    if was not in MAY_MOVE or now in NEVER_MOVE or not over_before(one, line):
-        return False
-    return was != now or field_of(before) < field_of(due)
-
-
-def check_moved(one, line, due, moved):
-    """That the answer is what it was by the limits of R and R0 before, or that it may
-    have moved; such lines are counted."""
-    if one not in BEFORE:
-        return
-    before = BEFORE[one].answer_line(line)
-    if before == due:
-        return
-    if not may_move(one, line, before, due):
-        raise CheckFailed(f"{line} of {one.name} gave {before}, and gives {due}")
-    moved[one.name, code_of(before), code_of(due)] += 1

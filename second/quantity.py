@@ -31,7 +31,8 @@ class Refused(Exception):
 
 
 def quotient_down(z, d):
-    """The largest whole number not above z/d: "all roundings are downward"."""
+    """The largest whole number not above z/d: every rounding goes down, but for the
+    ratio's."""
     # Floor division of whole numbers is defined for either sign of both.
     return z // d
 
@@ -44,8 +45,8 @@ def within_limits(r, r0, most=RESISTANCE_MOST):
 
 
 def divided(r, r0):
-    """W = R/R0 in units of 10^-9, rounded downward."""
-    return quotient_down(r * RATIO_ONE, r0)
+    """W = R/R0 in units of 10^-9, rounded to the nearest, an exact half upward."""
+    return quotient_down(2 * r * RATIO_ONE + r0, 2 * r0)
 
 
 def ratio(r, r0, most=RESISTANCE_MOST):
@@ -53,7 +54,7 @@ def ratio(r, r0, most=RESISTANCE_MOST):
     if not within_limits(r, r0, most):
         raise Refused(1)
     w = divided(r, r0)
-    # "Ratio W ... rounded down, at most 4.4": the limit is put to the rounded W.
+    # "The limit 4.4 is put to the ratio after its rounding."
     if w > RATIO_MOST:
         raise Refused(2)
     return w

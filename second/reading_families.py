@@ -13,12 +13,14 @@ from draws import (
     CURVE_EDGES,
     EDGE_PAIRS,
     LARGEST,
+    about_half,
     around,
     by_ohms,
     given_for,
     least_by,
     least_ratio,
     most_divisor,
+    near_half,
     near_kilohm,
     only_used,
     past_most,
@@ -33,7 +35,7 @@ from draws import (
 )
 from family import Family, Line, for_each
 from lists import FORWARD, READINGS
-from promises import outcome
+from promises import HALVES, note_half, outcome
 from quantity import (
     DIVISOR_LEAST,
     RATIO_MOST,
@@ -107,12 +109,17 @@ def due_at(law, step):
     return (law, step) if step <= last else 9
 
 
+def read_as(law, places, r, r0, due, survey):
+    """The line of a reading that is to give this; None where that is not known."""
+    answer, line = read(law, places, r, r0, survey)
+    if due not in (None, answer):
+        raise CheckFailed(f"{r} {r0} by {law} {places}: {answer}, due {due}")
+    return line
+
+
 def read_at(law, places, r, r0, step, survey):
     """The line of a reading that is to give this step."""
-    answer, line = read(law, places, r, r0, survey)
-    if answer != due_at(law, step):
-        raise CheckFailed(f"{r} {r0} by {law} {places}: {answer}, due {step}")
-    return line
+    return read_as(law, places, r, r0, due_at(law, step), survey)
 
 
 def edge_or_any(generator, law):
@@ -139,6 +146,41 @@ def ratio_case(generator, i, survey):
     step = edge_or_any(generator, law)
     r, r0 = resistances(generator, least_ratio(law, places, step))
     return about_step(law, places, step, r, r0, survey)
+
+
+# Halves of a unit.
+
+
+def half_aim(generator, law, places, step):
+    """The least ratio of a step, and what is read under half a unit less than it, there
+    and over it; of six cases one has the least ratio over 4.4 instead."""
+    if generator.under(6) == 0:
+        return RATIO_MOST + 1, (9, 2, 2)
+    at = due_at(law, step)
+    return least_ratio(law, places, step), (due_at(law, step - 1), at, at)
+
+
+def half_cases(generator, law, places, step, seen):
+    """R and R0 with what is read: a nanoohm less than the least R that has the ratio of
+    that aim, just this R, and a nanoohm more. Of five cases one is about some half
+    beside it, and what is read is not known."""
+    w, dues = half_aim(generator, law, places, step)
+    if generator.under(5) == 0:
+        pairs, dues = near_half(generator, w), (None, None, None)
+    else:
+        pairs = about_half(generator, w)
+    for pair, due in zip(pairs, dues):
+        note_half(*pair, seen)
+        yield *pair, due
+
+
+def halves_case(generator, i, survey):
+    """Half a unit to be rounded, exactly or nearly, about a step."""
+    law = LAWS[i % len(LAWS)]
+    places = places_for(generator, law)
+    step = edge_or_any(generator, law)
+    asked = half_cases(generator, law, places, step, survey.seen)
+    return [read_as(law, places, *pair, due, survey) for *pair, due in asked]
 
 
 # Large resistances.
@@ -441,6 +483,11 @@ del CARDS_LEAST[CURVE, 8]  # no card lies below the curve
 ANSWERED = ("answered", 8, 9)
 FORWARD_WHATS = ("answered", "forward 8", "forward 9")
 
+HALVES_LEAST = {
+    **for_each(LAWS, (*ANSWERED, 2), 50),
+    **for_each(("rounded",), HALVES, 500),
+}
+
 FAMILIES = (
     Family(
         *("limits", 701, 6000, limits_case),
@@ -449,6 +496,7 @@ FAMILIES = (
     ),
     Family("ratio", 702, 6000, ratio_case, for_each(LAWS, ANSWERED, 50)),
     Family("pt1000", 714, 3000, kilohm_case, for_each(LAWS, ANSWERED, 5)),
+    Family("halves", 715, 6000, halves_case, HALVES_LEAST),
     Family("working", 703, 10000, working_case, for_each(NAMES, ANSWERED, 20)),
     Family("read", 704, 14000, read_case, READ_LEAST),
     Family("curve", 705, 12000, curve_case, for_each((CURVE,), (*ANSWERED, 2), 1)),

@@ -21,10 +21,14 @@ from draws import (
     DIVISORS,
     EDGE_R,
     EDGE_R0,
+    EXACTLY,
     KILOHM,
     LARGEST_RESISTANCE,
+    OVER,
+    UNDER,
     any_divisor,
     around,
+    divisor_about_half,
     least_by,
     most_divisor,
     near_kilohm,
@@ -38,7 +42,8 @@ from draws import (
 )
 from family import Family, Line, for_each
 from lists import ID_MOST, LINE_MOST, RATIOS, RESISTANCES, line_of
-from promises import Survey, outcome_and_cell
+from moves import outcome_before
+from promises import HALVES, Survey, note_half, outcome_and_cell
 from quantity import (
     DIVISOR_LEAST,
     RATIO_ONE,
@@ -227,8 +232,9 @@ def measured_case(name):
 
 
 def edges_at(most):
-    """R and R0 at and past the most, and a ratio that is rounded down to 0 and the
-    least that is not."""
+    """R and R0 at and past the most, a ratio that is rounded to 0 and the least that
+    is not."""
+    one_unit, _ = least_by(1, most)
     return (
         (most, DIVISOR_LEAST),
         (most, most),
@@ -236,8 +242,8 @@ def edges_at(most):
         (most, most + 1),
         (most + 1, DIVISOR_LEAST),
         (1, most),
-        ((most - 1) // RATIO_ONE, most),
-        (most // RATIO_ONE, most),
+        (one_unit - 1, most),
+        (one_unit, most),
     )
 
 
@@ -269,6 +275,58 @@ def pairs_case(generator, i, survey):
         cell = CELLS[generator.under(len(CELLS))]
         pairs[cell] = EDGES[generator.under(len(EDGES))]
     return [measured(name, pairs, survey)]
+
+
+# Halves of a unit.
+
+# Divisors by which every unit has an R of its own, and R has 12 digits at most.
+HALF_LEAST = RATIO_ONE
+HALF_MOST = 150 * RATIO_ONE
+
+
+def half_pair(generator, w, seen):
+    """R and R0 of just this ratio: the least R or the largest, where half a unit is to
+    be rounded, exactly or nearly."""
+    side = (EXACTLY, EXACTLY, OVER, UNDER)[generator.under(4)]
+    # The largest is a nanoohm less than the least of the next unit. None is 0.
+    largest = 1 if w == 0 else generator.under(2)
+    least = HALF_LEAST if w > 0 else 4 * HALF_LEAST
+    r0 = divisor_about_half(generator, w + largest, side, least, HALF_MOST)
+    r, _ = least_by(w + largest, r0)
+    note_half(r - largest, r0, seen)
+    return r - largest, r0
+
+
+def note_moved(line, seen):
+    """Counts a record that had another answer before request 7, by the numbers then and
+    now, 0 with an answer."""
+    name, *numbers = line.values
+    outcomes = outcome_before(RESISTANCES, name, numbers), line.result
+    if outcomes[0] != outcomes[1]:
+        was, now = (0 if isinstance(made, tuple) else made for made in outcomes)
+        seen["moved", f"{was} to {now}"] += 1
+
+
+def half_record_case(generator, i, survey):
+    """A record with such a half in each cell; of three cases one has a cell of one unit
+    or of none, though it is given."""
+    name = NAMES[i % len(NAMES)]
+    record = record_for(generator)
+    lowest = CELLS[generator.under(len(CELLS))]
+    units = generator.under(6)
+    if units < 2:
+        record[lowest] = units
+    pairs = {}
+    for cell, w in record.items():
+        if w > 0 or (units, cell) == (0, lowest):
+            pairs[cell] = half_pair(generator, w, survey.seen)
+        else:
+            pairs[cell] = NO_RESISTANCES
+    if promises.record_of(pairs) != record:
+        raise CheckFailed(f"{pairs} are not of {record}")
+    line = measured(name, pairs, survey)
+    note_moved(line, survey.seen)
+    return [line]
 
 
 # Large resistances.
@@ -364,6 +422,15 @@ FITS_LEAST = {
     **{"7 by a coefficient": 100, 6: 0, 7: 0},
 }
 
+HALVES_LEAST = {
+    **dict.fromkeys((*NAMES, 2, 4, 6, 7), 20),
+    **{5: 20, "7 by a coefficient": 20},
+    **for_each(("rounded",), HALVES, 500),
+    **for_each(("moved",), ("0 to 0", "0 to 7", "4 to 6", "4 to 7", "7 to 2"), 10),
+    **for_each(("moved",), ("0 to 6", "5 to 6", "5 to 7", "6 to 0", "7 to 0"), 5),
+    **for_each(("moved",), ("4 to 5", "6 to 2", "6 to 7"), 0),
+}
+
 KILOHM_LEAST = {**dict.fromkeys(NAMES, 20), **RECORD_LEAST}
 
 LONG_LEAST = {
@@ -384,6 +451,7 @@ FAMILIES = (
     Family("named", 741, 2000, named_case, NAMED_LEAST),
     Family("faults", 742, 4000, faults_case, FAULTS_LEAST),
     Family("pairs", 743, 4000, pairs_case, PAIRS_LEAST),
+    Family("half-ohms", 747, 2000, half_record_case, HALVES_LEAST),
     Family("kilohms", 746, 3000, kilohm_case, KILOHM_LEAST),
     Family("fits", 744, 720, fits_case, FITS_LEAST),
     Family("long", 745, 2000, long_case, LONG_LEAST),

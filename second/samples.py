@@ -4,8 +4,6 @@ and of a list that holds resistances one with the largest.
 None has 180 bytes.
 """
 
-from collections import Counter
-
 from cases import CheckFailed
 from certificate import CELLS, LAWS, NO_RESISTANCES, SUBRANGES, certify
 from draws import (
@@ -26,7 +24,8 @@ from lists import (
     code_of,
     line_of,
 )
-from promises import check_moved
+from moves import check_moved
+from promises import Survey
 from quantity import RATIO_ONE, Refused
 from reading import CURVE, bounds
 
@@ -36,7 +35,7 @@ GOOD = {
     RATIOS: b"R1,ga,0,1118070000,0,0,0,0,0",
     RESISTANCES: b"R1,ga,0,0,27951750000,25000000000,0,0,0,0,0,0,0,0,0,0",
     FORWARD: b"X1,curve,-1000000,0,0,0,0,0",
-    TOLERANCE: b"S1,A,0,100058662299,100000000000",
+    TOLERANCE: b"S1,A,0,100058662249,100000000000",
 }
 NEXT = {
     READINGS: b"F2,ag,69539313500,25000000000,0,0,0,0,3376008600",
@@ -47,10 +46,10 @@ NEXT = {
     TOLERANCE: b"S2,B,-2000000,18520080000,100000000000",
 }
 WIDEST = {
-    READINGS: b"F3,curve,10000000000000,7219929894480,0,0,0,0,0",
-    RESISTANCES: b"R3,in,0,0,10000000000000,8943432778731,10000000000000"
-    b",6212330562954,0,0,0,0,0,0,0,0",
-    TOLERANCE: b"S3,B,0,9999999999999,10000000000000",
+    READINGS: b"F3,curve,10000000000000,7219929897087,0,0,0,0,0",
+    RESISTANCES: b"R3,in,0,0,10000000000000,8943432782730,10000000000000"
+    b",6212330564884,0,0,0,0,0,0,0,0",
+    TOLERANCE: b"S3,B,0,9999999995000,10000000000000",
 }
 
 
@@ -124,7 +123,7 @@ def drawn_line(one, generator):
         line = line_of(name_for(generator), *DRAWN[one](generator))
         answered = one.answer_line(line)
         if code_of(answered) == 0:
-            check_moved(one, line, answered, Counter())
+            check_moved(one, line, answered, Survey())
             return line
 
 

@@ -46,7 +46,8 @@ from lists import (
     lines_of,
 )
 from messages import SAID_MOST, first_unlike, said, shown
-from promises import Survey, check_moved
+from moves import check_moved
+from promises import Survey
 from samples import GOOD, NEXT, WIDEST, drawn_lines
 
 USAGE = """\
@@ -223,7 +224,7 @@ def damage_job(programs, name):
         _, *dues = lines_of(answer(PROGRAM_OF[one], data))
         for line, due in zip(lines, dues):
             damage.check_words(one, line)
-            check_moved(one, line, due, found.survey.moved)
+            check_moved(one, line, due, found.survey)
     except CheckFailed as failed:
         found.fail(f"check failed: {failed}")
         return found
@@ -328,6 +329,7 @@ class Sum:
         self.check(families.check_orders, met.orders)
         self.check(families.check_cells, met.cells)
         self.check(families.check_moved, met.moved)
+        self.check(families.check_rounded, met.rounded)
         self.check(families.check_codes, self.codes)
 
 

@@ -2,17 +2,19 @@
 
 import curve
 import promises
+from cases import CheckFailed
 from draws import CURVE_EDGES, EDGE_PAIRS, LETTERS, around, widest
 from family import Family, Line, for_each
 from lists import TOLERANCE
-from promises import outcome, whole_limit
+from promises import HALVES, outcome, whole_limit
 from quantity import (
     DIVISOR_LEAST,
     RATIO_ONE,
     RESISTANCE_MOST,
     RESISTANCE_MOST_BEFORE,
 )
-from reading import tolerance
+from reading import CURVE, tolerance
+from reading_families import ZEROS, half_cases
 
 
 def judged(letter, bath, r, r0, survey):
@@ -69,7 +71,7 @@ def aim_for(generator, letter, bath):
     limit = whole_limit(ord(letter), bath)
     kind = generator.under(5)
     if kind == 0:
-        # An aim nearly always reads one step low.
+        # An aim is read as itself or, under half a unit, as the step below.
         return bath + limit + generator.under(3)
     if kind == 1:
         return bath - limit - 1 + generator.under(3)
@@ -144,12 +146,61 @@ def classes_case(generator, i, survey):
     return [judged(letter, bath, r, r0, survey)]
 
 
+# Halves of a unit.
+
+
+def judged_as(letter, bath, r, r0, due, survey):
+    """The line of a test in which the curve is to give this; None where that is not
+    known."""
+    line = judged(letter, bath, r, r0, survey)
+    found = line.result
+    if isinstance(found, tuple):
+        _, error = found
+        found = (CURVE, bath + error)
+    if due not in (None, found):
+        raise CheckFailed(f"{letter} {bath} {r} {r0}: {found}, due {due}")
+    return line
+
+
+def half_step(generator, letter, bath):
+    """A step from which on a class fails, above the bath, or passes, below it; one near
+    the bath; any; the first of the curve, or the one past its last."""
+    limit = whole_limit(ord(letter), bath)
+    near = around(generator, 10000)
+    free = generator.under(curve.PAST_LAST - curve.FIRST + 1)
+    step = (
+        bath + limit + 1,
+        bath - limit,
+        bath + near,
+        curve.FIRST + free,
+        curve.FIRST,
+        curve.PAST_LAST,
+    )[generator.under(6)]
+    return min(max(step, curve.FIRST), curve.PAST_LAST)
+
+
+def half_test_case(generator, i, survey):
+    """Half a unit to be rounded, exactly or nearly, about a step."""
+    letter = "AB"[i % 2]
+    first, last, _, _ = curve.CLASSES[ord(letter)]
+    bath = first + generator.under(last - first + 1)
+    step = half_step(generator, letter, bath)
+    asked = half_cases(generator, CURVE, ZEROS, step, survey.seen)
+    return [judged_as(letter, bath, *pair, due, survey) for *pair, due in asked]
+
+
 # The families.
 
 JUDGED = ("pass", "fail", "bath 8", "bath 9", 1, 2, 8, 9)
 TOLERANCE_LEAST = {**for_each("AB", JUDGED, 3), ("unknown", 3): 100}
 
+HALVES_LEAST = {
+    **for_each("AB", ("pass", "fail", 2, 8, 9), 50),
+    **for_each(("rounded",), HALVES, 200),
+}
+
 FAMILIES = (
     Family("tolerance", 712, 10000, tolerance_case, TOLERANCE_LEAST),
     Family("classes", 713, 3000, classes_case, TOLERANCE_LEAST),
+    Family("half-tests", 716, 2000, half_test_case, HALVES_LEAST),
 )

@@ -56,7 +56,7 @@ outsideUpTo largest resistances = any (cellOutsideUpTo largest resistances) allC
 abbrev pub outside : Resistances → Bool
 outside = outsideUpTo largestResistance
 
--- The record of the cells' ratios, in which one that rounds down to 0 counts as not measured.
+-- The record of the cells' ratios, in which one that is rounded to 0 counts as not measured.
 abbrev pub ratiosOf : Resistances → Record
 ratiosOf resistances =
     record {

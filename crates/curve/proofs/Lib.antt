@@ -6,5 +6,6 @@ pub mod Places
 pub mod Ends
 pub mod Outcomes
 pub mod Back
+pub mod Bracketed
 pub mod Unique
 pub mod Widening

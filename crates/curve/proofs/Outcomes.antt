@@ -12,7 +12,7 @@ use Rattle.quantity.specs.Outcomes.{refused, Follows}
 use Rattle.law.specs.Answers.{noStep}
 use Rattle.curve.specs.Curve.{exact, units, first, last, pastLast}
 use Rattle.curve.specs.Ways.{readRatio}
-use Rattle.curve.specs.Promised.{ReadsAs}
+use Rattle.curve.specs.Promised.{Reads}
 
 pub reads-above : (w : ℕ) → largestRatio < w → Follows (readRatio w) (refused noStep 2)
 reads-above w h = rw (lt-ltb largestRatio w h) refl
@@ -23,7 +23,7 @@ reads-below w l h = rw (le-ltb largestRatio w l, yes-lt h) refl
 pub reads-past : (w : ℕ) → w ≤ largestRatio → exact first ≤ℤ units w → exact pastLast ≤ℤ units w → Follows (readRatio w) (refused noStep 9)
 reads-past w l h k = rw (le-ltb largestRatio w l, no-lt h, yes-le k) refl
 
-pub reads-step : (w : ℕ) (step : ℤ) → w ≤ largestRatio → exact first ≤ℤ units w → units w <ℤ exact pastLast → Largest exact first last (units w) step → ReadsAs w step
+pub reads-step : (w : ℕ) (step : ℤ) → w ≤ largestRatio → exact first ≤ℤ units w → units w <ℤ exact pastLast → Largest exact first last (units w) step → Reads (readRatio w) step
 reads-step w step b h k l = rw (le-ltb largestRatio w b, no-lt h, no-le k) (refl, (refl, l))
 
 -- a step of the curve is small

@@ -1,11 +1,12 @@
--- The ratio of two resistances: what an answered one is, that only one answer is allowed, and that it rises with R.
-use mathlib.Core.Path.{_≡_, sym, _∙_, ap}
+-- The ratio of two resistances: what an answered one is, that it is the nearest and rises with R, which are above 4.4, and that only one answer is allowed.
+use mathlib.Core.Path.{_≡_, refl, sym, _∙_, ap}
 use mathlib.Core.Bool.{true, _&&_, not}
 use mathlib.Core.List.{[], _∷_}
-use Prim.Native.Nat.{ℕ, _+_, _*_, _/_, _<_, _≤_}
-use native.Mathlib.Nat.{div-add-mod, mod-lt, lt-of-mul-lt-mul-left}
+use Prim.Native.Nat.{ℕ, _+_, _*_, _/_, _%_, _<_, _≤_}
+use native.Mathlib.Nat.{div-add-mod, div-add-mod', mod-lt, lt-of-mul-lt-mul-left, mul-le-mul, le-refl}
+use native.Mathlib.Decide.{decLt}
 use native.Mathlib.Omega.{arith}
-use borrow.Author.Tests.{ltb-false, leb-true, not-false}
+use borrow.Author.Tests.{le-leb, lt-leb, le-ltb, lt-ltb, ltb-false, leb-true, not-false}
 use lib.Dec.{leb, ltb}
 use Rattle.whole.proofs.Choice.{and-true}
 use Rattle.quantity.specs.declared.resistance.RatioAnswer.{RatioAnswer}
@@ -13,7 +14,8 @@ use Rattle.quantity.specs.declared.resistance.RatioAnswer.the-variants.{
 use Rattle.quantity.specs.Quantities.{one, isReading, isDivisor, leastDivisor, largestResistance, ratioOf, largestRatio}
 use Rattle.quantity.specs.Outcomes.{Outcome, _gives_, numberGiven, Follows}
 use Rattle.quantity.specs.Ratios.{ratioTests, stated, ratioRule}
-use Rattle.quantity.specs.Promised.{RatioRises}
+use Rattle.quantity.specs.Promised.{Nearest, RatioNearest, RatioRises, limitBy, RatioLimit, SetTo, SetHasRatio, RatioMoved}
+use Rattle.quantity.proofs.Division.{nearest-below, nearest-above}
 use Rattle.quantity.proofs.Outcomes.{one-outcome, not-answered, one-refusal, passed}
 
 -- two resistances that pass the tests
@@ -34,12 +36,69 @@ divisor-above r0 e =
     let least : leastDivisor ≤ r0 = leb-true leastDivisor r0 (and-true (leb leastDivisor r0) (leb r0 largestResistance) e .0) in
     omega (arith, least)
 
+-- ---- the nearest
+near-above : (r r0 : ℕ) → 0 < r0 → Nearest r r0 (ratioOf r r0)
+near-above r r0 h =
+    let n = 2 * (r * one) + r0 in
+    let under : n % (2 * r0) < 2 * r0 = mod-lt n (omega arith) in
+    record { not-above = omega (arith, div-add-mod n (2 * r0)); not-below = omega (arith, div-add-mod n (2 * r0), under) }
+
+near : (r r0 : ℕ) → isDivisor r0 ≡ true → Nearest r r0 (ratioOf r r0)
+near r r0 d = near-above r r0 (divisor-above r0 d)
+
 -- a larger resistance has no smaller ratio
-pub rises : RatioRises
-rises r r′ r0 d h =
-    let p : 0 < r0 = divisor-above r0 d in
-    let q : r * one / r0 < r′ * one / r0 + 1 = lt-of-mul-lt-mul-left r0 (omega (arith, div-add-mod (r * one) r0, div-add-mod (r′ * one) r0, mod-lt (r′ * one) p, h)) in
+ordered : (r r′ r0 v w : ℕ) → r ≤ r′ → Nearest r r0 v → Nearest r′ r0 w → v ≤ w
+ordered r r′ r0 v w h x y =
+    let q : v < w + 1 = lt-of-mul-lt-mul-left (2 * r0) (omega (arith, x .not-above, y .not-below, h)) in
     omega arith
+
+one-nearest : (r r0 v w : ℕ) → Nearest r r0 v → Nearest r r0 w → v ≡ w
+one-nearest r r0 v w x y = omega (arith, ordered r r r0 v w (le-refl r) x y, ordered r r r0 w v (le-refl r) y x)
+
+pub nearest : RatioNearest
+nearest r r0 d = (near r r0 d, λ w x. one-nearest r r0 w (ratioOf r r0) x (near r r0 d))
+
+pub rises : RatioRises
+rises r r′ r0 d h = ordered r r′ r0 (ratioOf r r0) (ratioOf r′ r0) h (near r r0 d) (near r′ r0 d)
+
+-- ---- the limit
+limit-of : (r r0 w : ℕ) → Nearest r r0 w → ltb largestRatio w ≡ leb (limitBy r0) (2 * (r * one))
+limit-of r r0 w x = by (decLt largestRatio w)
+  where
+    by : Dec (largestRatio < w) → ltb largestRatio w ≡ leb (limitBy r0) (2 * (r * one))
+    by (yes h) =
+        let more : (largestRatio + 1) * r0 ≤ w * r0 = mul-le-mul (omega arith) (le-refl r0) in
+        lt-ltb largestRatio w h ∙ sym (le-leb (limitBy r0) (2 * (r * one)) (omega (arith, more, x .not-above)))
+    by (no h) =
+        let no-more : w * r0 ≤ largestRatio * r0 = mul-le-mul (omega arith) (le-refl r0) in
+        le-ltb largestRatio w (omega arith) ∙ sym (lt-leb (limitBy r0) (2 * (r * one)) (omega (arith, no-more, x .not-below)))
+
+pub limit : RatioLimit
+limit r r0 d = rw (d, limit-of r r0 (ratioOf r r0) (near r r0 (and-true (isReading r) (isDivisor r0) d .1))) refl
+
+-- ---- a resistance that was set by its ratio
+-- by 1 Ω it is the ratio itself
+set-by-ohm : (r w : ℕ) → SetTo r one w → Nearest r one w
+set-by-ohm r w x = record { not-above = omega (arith, x .not-below); not-below = omega (arith, x .not-above) }
+
+set-nearest : (r r0 w : ℕ) → one ≤ r0 → SetTo r r0 w → Nearest r r0 w
+set-nearest r r0 w h x = by (decLt one r0)
+  where
+    by : Dec (one < r0) → Nearest r r0 w
+    by (yes l) = record { not-above = omega (arith, x .not-below); not-below = omega (arith, x .not-above) }
+    by (no l) =
+        let e : r0 ≡ one = omega arith in
+        rw e (set-by-ohm r w (rw e at x))
+
+pub set-has-ratio : SetHasRatio
+set-has-ratio r r0 w h x = sym (one-nearest r r0 w (ratioOf r r0) (set-nearest r r0 w (omega arith) x) (near-above r r0 (omega arith)))
+
+-- ---- the ratio before request 7
+pub moved : RatioMoved
+moved r r0 d =
+    let n = r * one in
+    let whole : n / r0 * r0 + n % r0 ≡ n = div-add-mod' n r0 in
+    (λ h. nearest-below n r0 (n / r0) (n % r0) whole h, λ h. nearest-above n r0 (n / r0) (n % r0) whole h (mod-lt n (divisor-above r0 d)))
 
 -- ---- one answer
 stated-unique : (x y : RatioAnswer) → stated x ≡ stated y → x ≡ y

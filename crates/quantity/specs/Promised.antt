@@ -1,15 +1,49 @@
 -- What is promised of the ratio of two resistances besides its answer, and of each rule that asks for the limits of a resistance.
-use Prim.Native.Nat.{ℕ, _≤_}
+use Prim.Native.Nat.{ℕ, _+_, _*_, _/_, _%_, _<_, _≤_}
 use mathlib.Core.Path.{_≡_}
-use mathlib.Core.Bool.{true, false}
-use lib.Dec.{eqb}
-use Rattle.quantity.specs.Quantities.{isDivisor, ratioOf}
-use Rattle.quantity.specs.Outcomes.{Outcome, Rule, Follows}
-use Rattle.quantity.specs.Ratios.{ratioRuleUpTo}
+use mathlib.Core.Bool.{true, false, _&&_}
+use lib.Dec.{eqb, leb}
+use Rattle.whole.specs.Choice.{if_then_else_}
+use Rattle.quantity.specs.Quantities.{isReading, isDivisor, one, ratioOf, largestRatio}
+use Rattle.quantity.specs.Outcomes.{Outcome, numberGiven, Rule, Follows}
+use Rattle.quantity.specs.Ratios.{ratioTests, ratioRuleUpTo}
+
+-- W is above R/R0 by half a unit at most, and below it by less, so that an exact half goes up. Half a unit is added to both, and both are multiplied by 2 R0.
+pub record Nearest (r r0 w : ℕ) : Type 0 where
+  pub not-above : 2 * w * r0 ≤ 2 * (r * one) + r0
+  pub not-below : 2 * (r * one) + r0 < 2 * (w + 1) * r0
+
+-- The ratio is nearest in this sense, and no other whole number is.
+abbrev pub RatioNearest : Type 0
+RatioNearest = (r r0 : ℕ) → isDivisor r0 ≡ true → Nearest r r0 (ratioOf r r0) × ((w : ℕ) → Nearest r r0 w → w ≡ ratioOf r r0)
 
 -- It never falls where R rises.
 abbrev pub RatioRises : Type 0
 RatioRises = (r r′ r0 : ℕ) → isDivisor r0 ≡ true → r ≤ r′ → ratioOf r r0 ≤ ratioOf r′ r0
+
+-- 4.400 000 000 5 times 2 R0, in units of 10^-9.
+abbrev pub limitBy : ℕ → ℕ
+limitBy r0 = (2 * largestRatio + 1) * r0
+
+-- Of resistances within their limits, 2 is given exactly where R/R0 is 4.400 000 000 5 or more.
+abbrev pub RatioLimit : Type 0
+RatioLimit = (r r0 : ℕ) → (isReading r && isDivisor r0) ≡ true → numberGiven (ratioTests r r0) ≡ (if leb (limitBy r0) (2 * (r * one)) then 2 else 0)
+
+-- R is set to W times R0, as near as whole nΩ come to it; between two of them it may be either.
+pub record SetTo (r r0 w : ℕ) : Type 0 where
+  pub not-above : 2 * (r * one) ≤ 2 * (w * r0) + one
+  pub not-below : 2 * (w * r0) ≤ 2 * (r * one) + one
+
+-- Then its ratio is W, where R0 is 1 Ω or more.
+abbrev pub SetHasRatio : Type 0
+SetHasRatio = (r r0 w : ℕ) → one ≤ r0 → SetTo r r0 w → ratioOf r r0 ≡ w
+
+-- ---- the ratio before request 7
+-- It was R/R0 rounded down. It stays where less than half a unit was dropped; elsewhere it is one unit more.
+abbrev pub RatioMoved : Type 0
+RatioMoved =
+    (r r0 : ℕ) → isDivisor r0 ≡ true
+    → (2 * (r * one % r0) < r0 → ratioOf r r0 ≡ r * one / r0) × (r0 ≤ 2 * (r * one % r0) → ratioOf r r0 ≡ r * one / r0 + 1)
 
 -- ---- a larger resistance allowed
 -- Of one rule up to a largest resistance and up to a larger one. What it gave stays, unless that was 1: it is given still, and nothing else is. And whatever has

@@ -1,6 +1,6 @@
 -- Resistances, ratios and temperatures: their units, their limits and how one is made from another.
 use mathlib.Core.Bool.{Bool, _&&_}
-use Prim.Native.Nat.{ℕ, _*_, _/_, _^_}
+use Prim.Native.Nat.{ℕ, _+_, _*_, _/_, _^_}
 use lib.Dec.{leb}
 use lib.IntN.{ℤ, pos, _+ℤ_}
 
@@ -34,9 +34,9 @@ isDivisor = isDivisorUpTo largestResistance
 abbrev pub one : ℕ
 one = 10 ^ 9
 
--- W = R/R0, rounded down.
+-- W = R/R0, rounded to the nearest unit, an exact half upward: half a unit is added, and what is past a whole unit is dropped.
 abbrev pub ratioOf : ℕ → ℕ → ℕ
-ratioOf r r0 = r * one / r0
+ratioOf r r0 = (2 * (r * one) + r0) / (2 * r0)
 
 -- A ratio is at most 4.4.
 abbrev pub largestRatio : ℕ

@@ -32,13 +32,19 @@ fn within(x: u64, least: u64, most: u64) -> bool
     least <= x && x <= most
 }
 
-// R/R0 in units of 10^-9, rounded down. R times 10^9 would pass 64 bits, so six decimals come first and three more from what is left.
-fn nine_decimals(r: u64, r0: u64) -> u64
+// R/R0 in units of 10^-9, to the nearest, a half upward. R times 10^9 would pass 64 bits, so six decimals come first and three more from what is left; what is
+// left then decides.
+fn nearest_ratio(r: u64, r0: u64) -> u64
     requires { ⌜ (r ≤ largestResistance) × (leastDivisor ≤ r0) × (r0 ≤ largestResistance) ⌝ }
     ensures { λ w. ⌜ w ≡ ratioOf r r0 ⌝ }
 {
     let millionfold = r * 1_000_000;
-    millionfold / r0 * 1000 + millionfold % r0 * 1000 / r0
+    let left = millionfold % r0 * 1000;
+    let below = millionfold / r0 * 1000 + left / r0;
+    if left % r0 * 2 < r0 {
+        return below;
+    }
+    below + 1
 }
 
 // Whether R and R0 are both within their limits.
@@ -53,7 +59,7 @@ pub fn ratio_within(r: Nanoohm, r0: Nanoohm) -> Ratio
     requires { ⌜ (isReading (r .0) && isDivisor (r0 .0)) ≡ true ⌝ }
     ensures { λ w. ⌜ w .0 ≡ ratioOf (r .0) (r0 .0) ⌝ }
 {
-    Ratio(nine_decimals(r.0, r0.0))
+    Ratio(nearest_ratio(r.0, r0.0))
 }
 
 // The ratio of two resistances.

@@ -15,6 +15,7 @@ use Rattle.quantity.specs.Quantities.{largestResistance, isReading, isDivisor, 
 use Rattle.quantity.specs.Outcomes.{Outcome, answered, _gives_, numberGiven, Follows, ifNamed}
 use Rattle.quantity.specs.Ratios.{ratioTests}
 use Rattle.quantity.proofs.Outcomes.{passed}
+use Rattle.quantity.proofs.Ratios.{set-has-ratio}
 use Rattle.law.specs.declared.subrange.Subrange.{Subrange}
 use Rattle.law.specs.declared.laws.Law.{Law}
 use Rattle.law.specs.declared.laws.Law.the-variants.{Curve, Scale}
@@ -35,7 +36,7 @@ use Rattle.certificate.specs.Certificate.{certificateOf, sound, soundTests}
 use Rattle.reading.specs.Laws.{valueOf, rangeOf}
 use Rattle.reading.specs.Reading.{readRatio, readCertificate}
 use Rattle.reading.specs.Forward.{Least, RatioAt}
-use Rattle.reading.specs.Promised.{HasRatio, ReadsBack}
+use Rattle.reading.specs.Promised.{HasRatio, ReadsBack, SetReadsBack}
 use Rattle.reading.proofs.Ends.{bottom-is, range-bottom, range-top, tops, under-all, over-all}
 use Rattle.reading.proofs.Tests.{between}
 use Rattle.reading.proofs.Answered.{went}
@@ -114,3 +115,6 @@ reads-back k r r0 step s f o named h z d e g =
     let t : Outcome LawAndStep = answered (record { law = some (Scale s); step = step }) in
     let read : Follows (readCertificate (certificateOf (Scale s) k) r r0) t = reads-resistances (certificateOf (Scale s) k) r r0 (w .sound-certificate) d (l .within) t (reads-ratio s (k .places) (w .keeps) step (ratioOf r r0) from to l) in
     read-unique largestResistance k r r0 o t g (subst (λ (n : Option Law). Follows (ifNamed noStep n (λ law. readCertificate (certificateOf law k) r r0)) t) (sym named) read)
+
+pub set-reads-back : SetReadsBack
+set-reads-back k r r0 step s f o named h z d l x g = reads-back k r r0 step s f o named h z d (set-has-ratio r r0 (f .answer .ratio) l x) g

@@ -8,22 +8,24 @@ use lib.Dec.{eqb}
 use lib.IntN.{ℤ, pos, _+ℤ_}
 use lib.Signed.{_≤ℤ_}
 use Rattle.exact.specs.Fraction.{integer, _+ᶠ_, _≤ᶠ_}
-use Rattle.quantity.specs.Quantities.{isReading, isDivisor, ratioOf}
+use Rattle.quantity.specs.Quantities.{isReading, isDivisor, one, ratioOf}
 use Rattle.quantity.specs.Outcomes.{Outcome, answered, Follows}
-use Rattle.quantity.specs.Promised.{Widens}
+use Rattle.quantity.specs.Promised.{SetTo, Widens}
 use Rattle.law.specs.declared.subrange.Form.{Form}
 use Rattle.law.specs.declared.subrange.Subrange.{Subrange}
-use Rattle.law.specs.declared.laws.Law.the-variants.{Scale}
+use Rattle.law.specs.declared.laws.Law.the-variants.{Curve, Scale}
 use Rattle.law.specs.Subranges.{carried, lawNamed}
 use Rattle.law.specs.Answers.{LawAndStep, LawAndRatio}
 use Rattle.reference.specs.Reference as reference
+use Rattle.curve.specs.Ways.{readResistances}
+use Rattle.curve.specs.Promised.{Bracketed}
 use Rattle.deviation.specs.declared.places.Places.{Places}
 use Rattle.deviation.specs.Limits.{Limited}
 use Rattle.deviation.specs.Exact.{exactWr}
 use Rattle.certificate.specs.declared.record.Record.{Record}
 use Rattle.certificate.specs.declared.soundness.Given.{Given}
 use Rattle.certificate.specs.declared.soundness.Certificate.{Certificate}
-use Rattle.certificate.specs.Certificate.{givenOf, held}
+use Rattle.certificate.specs.Certificate.{sound, certificateOf, givenOf, held}
 use Rattle.certificate.specs.Record.{recordRule}
 use Rattle.reading.specs.Reading.{readCertificateUpTo, readCertificate, readGivenUpTo, readGiven}
 use Rattle.reading.specs.Forward.{Least, forwardCertificate, forwardGiven}
@@ -31,6 +33,19 @@ use Rattle.reading.specs.Forward.{Least, forwardCertificate, forwardGive
 -- An answered reading names the law that was asked for, and no other.
 abbrev pub LawAsked : Type 0
 LawAsked = (k : Given) (r r0 : ℕ) (o : Outcome LawAndStep) → Follows (readGiven k r r0) o → o .code ≡ 0 → o .answer .law ≡ lawNamed (k .law .0)
+
+-- ---- by the curve
+-- A reading by the curve and a sound certificate, which has zeros alone, is the curve's own; so all that is said of those is so of it.
+abbrev pub CurveAsItself : Type 0
+CurveAsItself =
+    (k : Given) (r r0 : ℕ) (o : Outcome LawAndStep) → lawNamed (k .law .0) ≡ some Curve → sound (certificateOf Curve k) ≡ true
+    → Follows (readGiven k r r0) o → Follows (readResistances r r0) o
+
+-- R/R0 is bracketed by the step of every answer by the curve and the next.
+abbrev pub CurveBracketed : Type 0
+CurveBracketed =
+    (k : Given) (r r0 : ℕ) (o : Outcome LawAndStep) → lawNamed (k .law .0) ≡ some Curve → Follows (readGiven k r r0) o → o .code ≡ 0
+    → Bracketed r r0 (o .answer .step)
 
 -- ---- demand 3
 -- 0.000 000 000 3 in units of 10^-11
@@ -97,4 +112,11 @@ abbrev pub ReadsBack : Type 0
 ReadsBack =
     (k : Given) (r r0 : ℕ) (step : ℤ) (s : Subrange) (f : Outcome LawAndRatio) (o : Outcome LawAndStep) → lawNamed (k .law .0) ≡ some (Scale s)
     → Follows (forwardGiven k step) f → f .code ≡ 0 → (isReading r && isDivisor r0) ≡ true → ratioOf r r0 ≡ f .answer .ratio
+    → Follows (readGiven k r r0) o → o ≡ answered (record { law = some (Scale s); step = step })
+
+-- So are two of which R was set by it, where R0 is 1 Ω or more.
+abbrev pub SetReadsBack : Type 0
+SetReadsBack =
+    (k : Given) (r r0 : ℕ) (step : ℤ) (s : Subrange) (f : Outcome LawAndRatio) (o : Outcome LawAndStep) → lawNamed (k .law .0) ≡ some (Scale s)
+    → Follows (forwardGiven k step) f → f .code ≡ 0 → (isReading r && isDivisor r0) ≡ true → one ≤ r0 → SetTo r r0 (f .answer .ratio)
     → Follows (readGiven k r r0) o → o ≡ answered (record { law = some (Scale s); step = step })

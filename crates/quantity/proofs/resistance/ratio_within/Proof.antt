@@ -14,8 +14,8 @@ between : (least most x : ℕ) → (leb least x && leb x most) ≡ true → (lea
 between least most x e =
     let p = and-true (leb least x) (leb x most) e in (leb-true least x (p .0), leb-true x most (p .1))
 
-nine-decimals-requires : tie.Need-nine-decimals-requires
-nine-decimals-requires c κs =
+nearest-ratio-requires : tie.Need-nearest-ratio-requires
+nearest-ratio-requires c κs =
     let r = c .args .r .0 in
     let r0 = c .args .r0 .0 in
     let both = and-true (isReading r) (isDivisor r0) (c .pre) in
@@ -27,4 +27,4 @@ returns : tie.Need-returns
 returns c = search needs
 
 pub ratio-within-spec : {M : Type 1} → statement M
-ratio-within-spec = tie.close (tie.spec nine-decimals-requires returns)
+ratio-within-spec = tie.close (tie.spec nearest-ratio-requires returns)
