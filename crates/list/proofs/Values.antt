@@ -1,28 +1,25 @@
 -- The scope document's own list, and lines at the edges, byte for byte, which the checker computes.
 use mathlib.Core.Path.{_≡_, refl}
 use mathlib.Core.Bool.{true}
-use mathlib.Core.Option.{some}
 use mathlib.Core.List.{List, [], _∷_}
 use native.Mathlib.Omega.{arith}
 use Prim.Native.Nat.{ℕ}
 use Prim.Native.Char.{code}
-use lib.IntN.{ℤ, pos}
+use lib.IntN.{pos}
 use lib.ListN.{length, replicate}
 use Rattle.whole.specs.Text.{ascii}
 use Rattle.exact.specs.Polynomial.{rounded}
 use Rattle.law.specs.declared.laws.Law.the-variants.{Curve, Scale}
 use Rattle.law.specs.declared.subrange.Subrange.the-variants.{Ag}
-use Rattle.law.specs.declared.laws.Law.{Law}
-use Rattle.law.specs.Answers.{LawAndStep, noStep}
-use Rattle.quantity.specs.Outcomes.{Outcome, answered, refused, Follows}
-use Rattle.deviation.specs.declared.places.Places.{Places}
+use Rattle.law.specs.Answers.{noStep}
+use Rattle.quantity.specs.Outcomes.{refused, Follows}
 use Rattle.deviation.specs.Limits.{x, δ, keeps}
 use Rattle.reference.specs.Reference.{working}
 use Rattle.curve.specs.Curve.{exact, quadratic, quartic, units}
-use Rattle.certificate.specs.declared.soundness.Given.{Given}
 use Rattle.deviation.specs.Working.{plainDeviation, hasDTerm, z, dTerm, deviation, Wr}
 use Rattle.reading.specs.Reading.{readGivenUpTo, readGiven}
 use Rattle.reading.proofs.Tests.{step-passes}
+use Rattle.reading.proofs.Values.{zeros, given, at}
 use Rattle.law.specs.Names.{spelled}
 use Rattle.text.specs.Decimal.{decimal}
 use Rattle.text.specs.Columns.{wellFormed, faultBy, faultOf, values}
@@ -36,16 +33,6 @@ use Rattle.text.proofs.Decimals.{decimal-one, decimal-more}
 use Rattle.list.specs.declared.kinds.Desk.the-variants.{Launch, Bench}
 use Rattle.list.specs.Kinds.{headed}
 use Rattle.list.specs.Lists.{ListAnswered}
-
--- the certificates of zeros
-abbrev zeros : ℕ → Places
-zeros wal = record { a = pos 0; b = pos 0; c = pos 0; d = pos 0; wal = record { 0 = wal } }
-
-abbrev given : ℕ → ℕ → Given
-given law wal = record { law = record { 0 = law }; places = zeros wal }
-
-abbrev at : Law → ℤ → Outcome LawAndStep
-at law t = answered (record { law = some law; step = t })
 
 read-F1 : Follows (readGiven (given (spelled "curve") 0) 138_505_500_000 100_000_000_000) (at Curve (pos 1_000_000))
 unfolding exact quadratic quartic units

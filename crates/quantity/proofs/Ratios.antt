@@ -3,10 +3,10 @@ use mathlib.Core.Path.{_≡_, refl, sym, _∙_, ap}
 use mathlib.Core.Bool.{true, _&&_, not}
 use mathlib.Core.List.{[], _∷_}
 use Prim.Native.Nat.{ℕ, _+_, _*_, _/_, _%_, _<_, _≤_}
-use native.Mathlib.Nat.{div-add-mod, div-add-mod', mod-lt, lt-of-mul-lt-mul-left, mul-le-mul, le-refl}
+use native.Mathlib.Nat.{div-add-mod, div-add-mod', mod-lt, lt-of-mul-lt-mul-left, le-refl}
 use native.Mathlib.Decide.{decLt}
 use native.Mathlib.Omega.{arith}
-use borrow.Author.Tests.{le-leb, lt-leb, le-ltb, lt-ltb, ltb-false, leb-true, not-false}
+use borrow.Author.Tests.{le-ltb, lt-ltb, ltb-false, leb-true, not-false}
 use lib.Dec.{leb, ltb}
 use Rattle.whole.proofs.Choice.{and-true}
 use Rattle.quantity.specs.declared.resistance.RatioAnswer.{RatioAnswer}
@@ -14,7 +14,7 @@ use Rattle.quantity.specs.declared.resistance.RatioAnswer.the-variants.{
 use Rattle.quantity.specs.Quantities.{one, isReading, isDivisor, leastDivisor, largestResistance, ratioOf, largestRatio}
 use Rattle.quantity.specs.Outcomes.{Outcome, _gives_, numberGiven, Follows}
 use Rattle.quantity.specs.Ratios.{ratioTests, stated, ratioRule}
-use Rattle.quantity.specs.Promised.{Nearest, RatioNearest, RatioRises, limitBy, RatioLimit, SetTo, SetHasRatio, RatioMoved}
+use Rattle.quantity.specs.Promised.{Nearest, RatioNearest, RatioRises, RatioLimit, SetTo, SetHasRatio, RatioMoved}
 use Rattle.quantity.proofs.Division.{nearest-below, nearest-above}
 use Rattle.quantity.proofs.Outcomes.{one-outcome, not-answered, one-refusal, passed}
 
@@ -37,14 +37,11 @@ divisor-above r0 e =
     omega (arith, least)
 
 -- ---- the nearest
-near-above : (r r0 : ℕ) → 0 < r0 → Nearest r r0 (ratioOf r r0)
-near-above r r0 h =
+near : (r r0 : ℕ) → 0 < r0 → Nearest r r0 (ratioOf r r0)
+near r r0 p =
     let n = 2 * (r * one) + r0 in
     let under : n % (2 * r0) < 2 * r0 = mod-lt n (omega arith) in
     record { not-above = omega (arith, div-add-mod n (2 * r0)); not-below = omega (arith, div-add-mod n (2 * r0), under) }
-
-near : (r r0 : ℕ) → isDivisor r0 ≡ true → Nearest r r0 (ratioOf r r0)
-near r r0 d = near-above r r0 (divisor-above r0 d)
 
 -- a larger resistance has no smaller ratio
 ordered : (r r′ r0 v w : ℕ) → r ≤ r′ → Nearest r r0 v → Nearest r′ r0 w → v ≤ w
@@ -56,25 +53,31 @@ one-nearest : (r r0 v w : ℕ) → Nearest r r0 v → Nearest r r0 w → v ≡ w
 one-nearest r r0 v w x y = omega (arith, ordered r r r0 v w (le-refl r) x y, ordered r r r0 w v (le-refl r) y x)
 
 pub nearest : RatioNearest
-nearest r r0 d = (near r r0 d, λ w x. one-nearest r r0 w (ratioOf r r0) x (near r r0 d))
+nearest r r0 d =
+    let x = near r r0 (divisor-above r0 d) in
+    (x, λ w y. one-nearest r r0 w (ratioOf r r0) y x)
 
 pub rises : RatioRises
-rises r r′ r0 d h = ordered r r′ r0 (ratioOf r r0) (ratioOf r′ r0) h (near r r0 d) (near r′ r0 d)
+rises r r′ r0 d h =
+    let p = divisor-above r0 d in
+    ordered r r′ r0 (ratioOf r r0) (ratioOf r′ r0) h (near r r0 p) (near r′ r0 p)
 
 -- ---- the limit
-limit-of : (r r0 w : ℕ) → Nearest r r0 w → ltb largestRatio w ≡ leb (limitBy r0) (2 * (r * one))
-limit-of r r0 w x = by (decLt largestRatio w)
-  where
-    by : Dec (largestRatio < w) → ltb largestRatio w ≡ leb (limitBy r0) (2 * (r * one))
-    by (yes h) =
-        let more : (largestRatio + 1) * r0 ≤ w * r0 = mul-le-mul (omega arith) (le-refl r0) in
-        lt-ltb largestRatio w h ∙ sym (le-leb (limitBy r0) (2 * (r * one)) (omega (arith, more, x .not-above)))
-    by (no h) =
-        let no-more : w * r0 ≤ largestRatio * r0 = mul-le-mul (omega arith) (le-refl r0) in
-        le-ltb largestRatio w (omega arith) ∙ sym (lt-leb (limitBy r0) (2 * (r * one)) (omega (arith, no-more, x .not-below)))
+limit-kept : (r r0 w : ℕ) → Nearest r r0 w → 2 * (r * one) < (2 * largestRatio + 1) * r0 → w ≤ largestRatio
+limit-kept r r0 w x h =
+    let q : w < largestRatio + 1 = lt-of-mul-lt-mul-left (2 * r0) (omega (arith, x .not-above, h)) in
+    omega arith
+
+limit-passed : (r r0 w : ℕ) → Nearest r r0 w → (2 * largestRatio + 1) * r0 ≤ 2 * (r * one) → largestRatio < w
+limit-passed r r0 w x h =
+    let q : largestRatio + 1 < w + 1 = lt-of-mul-lt-mul-left (2 * r0) (omega (arith, x .not-below, h)) in
+    omega arith
 
 pub limit : RatioLimit
-limit r r0 d = rw (d, limit-of r r0 (ratioOf r r0) (near r r0 (and-true (isReading r) (isDivisor r0) d .1))) refl
+limit r r0 d =
+    let w = ratioOf r r0 in
+    let x = near r r0 (divisor-above r0 (and-true (isReading r) (isDivisor r0) d .1)) in
+    (λ h. rw (d, le-ltb largestRatio w (limit-kept r r0 w x h)) refl, λ h. rw (d, lt-ltb largestRatio w (limit-passed r r0 w x h)) refl)
 
 -- ---- a resistance that was set by its ratio
 -- by 1 Ω it is the ratio itself
@@ -91,7 +94,7 @@ set-nearest r r0 w h x = by (decLt one r0)
         rw e (set-by-ohm r w (rw e at x))
 
 pub set-has-ratio : SetHasRatio
-set-has-ratio r r0 w h x = sym (one-nearest r r0 w (ratioOf r r0) (set-nearest r r0 w (omega arith) x) (near-above r r0 (omega arith)))
+set-has-ratio r r0 w h x = sym (one-nearest r r0 w (ratioOf r r0) (set-nearest r r0 w (omega arith) x) (near r r0 (omega arith)))
 
 -- ---- the ratio before request 7
 pub moved : RatioMoved

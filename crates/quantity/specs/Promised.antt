@@ -2,8 +2,7 @@
 use Prim.Native.Nat.{ℕ, _+_, _*_, _/_, _%_, _<_, _≤_}
 use mathlib.Core.Path.{_≡_}
 use mathlib.Core.Bool.{true, false, _&&_}
-use lib.Dec.{eqb, leb}
-use Rattle.whole.specs.Choice.{if_then_else_}
+use lib.Dec.{eqb}
 use Rattle.quantity.specs.Quantities.{isReading, isDivisor, one, ratioOf, largestRatio}
 use Rattle.quantity.specs.Outcomes.{Outcome, numberGiven, Rule, Follows}
 use Rattle.quantity.specs.Ratios.{ratioTests, ratioRuleUpTo}
@@ -21,13 +20,12 @@ RatioNearest = (r r0 : ℕ) → isDivisor r0 ≡ true → Nearest r r0 (ratioOf 
 abbrev pub RatioRises : Type 0
 RatioRises = (r r′ r0 : ℕ) → isDivisor r0 ≡ true → r ≤ r′ → ratioOf r r0 ≤ ratioOf r′ r0
 
--- 4.400 000 000 5 times 2 R0, in units of 10^-9.
-abbrev pub limitBy : ℕ → ℕ
-limitBy r0 = (2 * largestRatio + 1) * r0
-
--- Of resistances within their limits, 2 is given exactly where R/R0 is 4.400 000 000 5 or more.
+-- Of resistances within their limits those pass whose R/R0 is below 4.400 000 000 5, which is half a unit above 4.4, and all others are refused by 2.
 abbrev pub RatioLimit : Type 0
-RatioLimit = (r r0 : ℕ) → (isReading r && isDivisor r0) ≡ true → numberGiven (ratioTests r r0) ≡ (if leb (limitBy r0) (2 * (r * one)) then 2 else 0)
+RatioLimit =
+    (r r0 : ℕ) → (isReading r && isDivisor r0) ≡ true
+    → (2 * (r * one) < (2 * largestRatio + 1) * r0 → numberGiven (ratioTests r r0) ≡ 0)
+    × ((2 * largestRatio + 1) * r0 ≤ 2 * (r * one) → numberGiven (ratioTests r r0) ≡ 2)
 
 -- R is set to W times R0, as near as whole nΩ come to it; between two of them it may be either.
 pub record SetTo (r r0 w : ℕ) : Type 0 where

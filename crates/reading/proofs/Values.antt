@@ -20,76 +20,76 @@ use Rattle.certificate.specs.declared.soundness.Given.{Given}
 use Rattle.reading.specs.Reading.{readGiven}
 use Rattle.reading.proofs.Tests.{step-passes}
 
--- without coefficients
-abbrev zeros : Places
-zeros = record { a = pos 0; b = pos 0; c = pos 0; d = pos 0; wal = record { 0 = 0 } }
+-- the certificates of zeros
+abbrev pub zeros : ℕ → Places
+zeros wal = record { a = pos 0; b = pos 0; c = pos 0; d = pos 0; wal = record { 0 = wal } }
 
-abbrev of : ℕ → Given
-of law = record { law = record { 0 = law }; places = zeros }
+abbrev pub given : ℕ → ℕ → Given
+given law wal = record { law = record { 0 = law }; places = zeros wal }
 
-abbrev at : Law → ℤ → Outcome LawAndStep
+abbrev pub at : Law → ℤ → Outcome LawAndStep
 at law t = answered (record { law = some law; step = t })
 
 -- ---- R/R0 = 0.999 960 109 5 by ga: 8 before, now 0 °C
-was-below : Follows (readGiven (of (spelled "ga")) 999_960_109 1_000_000_000) (refused noStep 8)
+was-below : Follows (readGiven (given (spelled "ga") 0) 999_960_109 1_000_000_000) (refused noStep 8)
 unfolding working rounded Wr deviation plainDeviation dTerm hasDTerm z x
 was-below = refl
 
-is-first : Follows (readGiven (of (spelled "ga")) 99_996_010_950 100_000_000_000) (at (Scale Ga) (pos 0))
+is-first : Follows (readGiven (given (spelled "ga") 0) 99_996_010_950 100_000_000_000) (at (Scale Ga) (pos 0))
 unfolding working rounded Wr deviation plainDeviation dTerm hasDTerm z x
-is-first = step-passes (Scale Ga) zeros 999_960_110 (pos 0) refl
+is-first = step-passes (Scale Ga) (zeros 0) 999_960_110 (pos 0) refl
 
-still-below : Follows (readGiven (of (spelled "ga")) 99_996_010_949 100_000_000_000) (refused noStep 8)
+still-below : Follows (readGiven (given (spelled "ga") 0) 99_996_010_949 100_000_000_000) (refused noStep 8)
 unfolding working rounded Wr deviation plainDeviation dTerm hasDTerm z x
 still-below = refl
 
 -- ---- R/R0 = 0.185 200 799 5 by the curve: 8 before, now -200 °C
-was-under-range : Follows (readGiven (of (spelled "curve")) 185_200_799 1_000_000_000) (refused noStep 8)
+was-under-range : Follows (readGiven (given (spelled "curve") 0) 185_200_799 1_000_000_000) (refused noStep 8)
 unfolding exact quadratic quartic units
 was-under-range = refl
 
-is-lowest : Follows (readGiven (of (spelled "curve")) 18_520_079_950 100_000_000_000) (at Curve (negℤ (pos 2_000_000)))
+is-lowest : Follows (readGiven (given (spelled "curve") 0) 18_520_079_950 100_000_000_000) (at Curve (negℤ (pos 2_000_000)))
 unfolding exact quadratic quartic units
-is-lowest = step-passes Curve zeros 185_200_800 (negℤ (pos 2_000_000)) refl
+is-lowest = step-passes Curve (zeros 0) 185_200_800 (negℤ (pos 2_000_000)) refl
 
-still-under-range : Follows (readGiven (of (spelled "curve")) 18_520_079_949 100_000_000_000) (refused noStep 8)
+still-under-range : Follows (readGiven (given (spelled "curve") 0) 18_520_079_949 100_000_000_000) (refused noStep 8)
 unfolding exact quadratic quartic units
 still-under-range = refl
 
 -- ---- R/R0 = 3.904 811 542 5 by the curve: 850 °C before, now 9
-was-last : Follows (readGiven (of (spelled "curve")) 3_904_811_542 1_000_000_000) (at Curve (pos 8_500_000))
+was-last : Follows (readGiven (given (spelled "curve") 0) 3_904_811_542 1_000_000_000) (at Curve (pos 8_500_000))
 unfolding exact quadratic quartic units
-was-last = step-passes Curve zeros 3_904_811_542 (pos 8_500_000) refl
+was-last = step-passes Curve (zeros 0) 3_904_811_542 (pos 8_500_000) refl
 
-is-past : Follows (readGiven (of (spelled "curve")) 390_481_154_250 100_000_000_000) (refused noStep 9)
+is-past : Follows (readGiven (given (spelled "curve") 0) 390_481_154_250 100_000_000_000) (refused noStep 9)
 unfolding exact quadratic quartic units
 is-past = refl
 
-still-last : Follows (readGiven (of (spelled "curve")) 390_481_154_249 100_000_000_000) (at Curve (pos 8_500_000))
+still-last : Follows (readGiven (given (spelled "curve") 0) 390_481_154_249 100_000_000_000) (at Curve (pos 8_500_000))
 unfolding exact quadratic quartic units
-still-last = step-passes Curve zeros 3_904_811_542 (pos 8_500_000) refl
+still-last = step-passes Curve (zeros 0) 3_904_811_542 (pos 8_500_000) refl
 
 -- ---- R/R0 = 4.400 000 000 5: 9 before, now 2
-was-past : Follows (readGiven (of (spelled "curve")) 4_400_000_000 1_000_000_000) (refused noStep 9)
+was-past : Follows (readGiven (given (spelled "curve") 0) 4_400_000_000 1_000_000_000) (refused noStep 9)
 unfolding exact quadratic quartic units
 was-past = refl
 
-is-above : Follows (readGiven (of (spelled "curve")) 440_000_000_050 100_000_000_000) (refused noStep 2)
+is-above : Follows (readGiven (given (spelled "curve") 0) 440_000_000_050 100_000_000_000) (refused noStep 2)
 is-above = refl
 
-still-past : Follows (readGiven (of (spelled "curve")) 440_000_000_049 100_000_000_000) (refused noStep 9)
+still-past : Follows (readGiven (given (spelled "curve") 0) 440_000_000_049 100_000_000_000) (refused noStep 9)
 unfolding exact quadratic quartic units
 still-past = refl
 
 -- ---- R/R0 = 1.385 054 999 5 by the curve: the step under 100 °C before, now 100 °C
-was-under : Follows (readGiven (of (spelled "curve")) 1_385_054_999 1_000_000_000) (at Curve (pos 999_999))
+was-under : Follows (readGiven (given (spelled "curve") 0) 1_385_054_999 1_000_000_000) (at Curve (pos 999_999))
 unfolding exact quadratic quartic units
-was-under = step-passes Curve zeros 1_385_054_999 (pos 999_999) refl
+was-under = step-passes Curve (zeros 0) 1_385_054_999 (pos 999_999) refl
 
-is-reached : Follows (readGiven (of (spelled "curve")) 138_505_499_950 100_000_000_000) (at Curve (pos 1_000_000))
+is-reached : Follows (readGiven (given (spelled "curve") 0) 138_505_499_950 100_000_000_000) (at Curve (pos 1_000_000))
 unfolding exact quadratic quartic units
-is-reached = step-passes Curve zeros 1_385_055_000 (pos 1_000_000) refl
+is-reached = step-passes Curve (zeros 0) 1_385_055_000 (pos 1_000_000) refl
 
-still-under : Follows (readGiven (of (spelled "curve")) 138_505_499_949 100_000_000_000) (at Curve (pos 999_999))
+still-under : Follows (readGiven (given (spelled "curve") 0) 138_505_499_949 100_000_000_000) (at Curve (pos 999_999))
 unfolding exact quadratic quartic units
-still-under = step-passes Curve zeros 1_385_054_999 (pos 999_999) refl
+still-under = step-passes Curve (zeros 0) 1_385_054_999 (pos 999_999) refl
