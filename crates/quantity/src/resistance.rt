@@ -1,7 +1,7 @@
 // Resistances, ratios, and the ratio of two resistances.
 ghost use mathlib.Core.Path.{_≡_};
 ghost use mathlib.Core.Bool.{_&&_, true};
-ghost use Prim.Native.Nat.{_≤_};
+ghost use Prim.Native.Nat.{_+_, _*_, _<_, _≤_, _^_};
 ghost use lib.Dec.{leb};
 ghost use Rattle.quantity.specs.Quantities.{largestResistance, leastDivisor, isReading, isDivisor, ratioOf};
 ghost use Rattle.quantity.specs.Outcomes.{Follows};
@@ -32,19 +32,70 @@ fn within(x: u64, least: u64, most: u64) -> bool
     least <= x && x <= most
 }
 
-// R/R0 in units of 10^-9, to the nearest, a half upward. R times 10^9 would pass 64 bits, so six decimals come first and three more from what is left; what is
-// left then decides.
+// A quotient, and what is left.
+struct Divided {
+    quotient: u64,
+    left: u64,
+}
+
+// n / d by shift and subtract, as at school but in binary. Each turn doubles what is left and takes the divisor, which stands as many places up as there are
+// turns, away where it goes. The digits of the quotient come in the places that doubling sets free: so x is what is left, and below it the quotient.
+fn divide(n: u64, d: u64, turns: u64) -> Divided
+    requires { ⌜ (turns < 64) × (d * 2 ^ turns < 2 ^ 63) × (n < d * 2 ^ turns) ⌝ }
+    ensures { λ r. ⌜ (r .quotient * d + r .left ≡ n) × (r .left < d) × (r .quotient < 2 ^ turns) ⌝ }
+{
+    let divisor = d << turns;
+    let mut x = n;
+    let mut more = turns;
+    while 0 < more {
+        more -= 1;
+        x = x << 1;
+        if divisor <= x {
+            x = x - (divisor - 1);
+        }
+    }
+    let left = x >> turns;
+    Divided {
+        quotient: x - (left << turns),
+        left: left,
+    }
+}
+
+// Three decimals more.
+fn three_more(before: Divided, d: u64) -> Divided
+    requires { ⌜ (before .left < d) × (d ≤ largestResistance) × (before .quotient < 2 ^ 50) ⌝ }
+    ensures { λ r. ⌜ (r .quotient * d + r .left ≡ (before .quotient * d + before .left) * 1000) × (r .left < d)
+        × (r .quotient < before .quotient * 1000 + 2 ^ 10) ⌝ }
+{
+    let digits = divide(before.left * 1000, d, 10);
+    Divided {
+        quotient: before.quotient * 1000 + digits.quotient,
+        left: digits.left,
+    }
+}
+
+// How many whole times R0 goes in R. Most readings have less than 8, which takes 3 turns; 17 are enough for all.
+fn whole_times(r: u64, r0: u64) -> Divided
+    requires { ⌜ (r ≤ largestResistance) × (leastDivisor ≤ r0) × (r0 ≤ largestResistance) ⌝ }
+    ensures { λ w. ⌜ (w .quotient * r0 + w .left ≡ r) × (w .left < r0) × (w .quotient < 2 ^ 17) ⌝ }
+{
+    if r < r0 * 8 {
+        return divide(r, r0, 3);
+    }
+    divide(r, r0, 17)
+}
+
+// R/R0 in units of 10^-9, to the nearest, a half upward: what is left after nine decimals decides. R times 10^9 would pass 64 bits, so decimals come by threes.
 fn nearest_ratio(r: u64, r0: u64) -> u64
     requires { ⌜ (r ≤ largestResistance) × (leastDivisor ≤ r0) × (r0 ≤ largestResistance) ⌝ }
     ensures { λ w. ⌜ w ≡ ratioOf r r0 ⌝ }
 {
-    let millionfold = r * 1_000_000;
-    let left = millionfold % r0 * 1000;
-    let below = millionfold / r0 * 1000 + left / r0;
-    if left % r0 * 2 < r0 {
-        return below;
+    let three = three_more(whole_times(r, r0), r0);
+    let nine = three_more(three_more(three, r0), r0);
+    if nine.left * 2 < r0 {
+        return nine.quotient;
     }
-    below + 1
+    nine.quotient + 1
 }
 
 // Whether R and R0 are both within their limits.
