@@ -1,7 +1,7 @@
 -- `quantity::resistance::nearest_ratio` meets its contract.
 use borrow.Author.Needs.{needs}
 use mathlib.Core.Path.{_≡_, sym}
-use Prim.Native.Nat.{ℕ, _+_, _*_}
+use Prim.Native.Nat.{_+_, _*_}
 use native.Mathlib.Omega.{arith}
 use Rattle.quantity.specs.Quantities.{one}
 use Rattle.quantity.proofs.Division.{nearest-below, nearest-above}
