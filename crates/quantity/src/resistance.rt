@@ -39,7 +39,8 @@ struct Divided {
 }
 
 // n / d by shift and subtract, as at school but in binary. Each turn doubles what is left and takes the divisor, which stands as many places up as there are
-// turns, away where it goes. The digits of the quotient come in the places that doubling sets free: so x is what is left, and below it the quotient.
+// turns, away where it goes. The digits of the quotient come in the places that doubling sets free: so x is what is left, and below it the quotient. To take
+// away one less than the divisor is to put the digit 1 there.
 fn divide(n: u64, d: u64, turns: u64) -> Divided
     requires { ⌜ (turns < 64) × (d * 2 ^ turns < 2 ^ 63) × (n < d * 2 ^ turns) ⌝ }
     ensures { λ r. ⌜ (r .quotient * d + r .left ≡ n) × (r .left < d) × (r .quotient < 2 ^ turns) ⌝ }
@@ -51,13 +52,13 @@ fn divide(n: u64, d: u64, turns: u64) -> Divided
         more -= 1;
         x = x << 1;
         if divisor <= x {
-            x = x - (divisor - 1);
+            x -= divisor - 1;
         }
     }
     let left = x >> turns;
     Divided {
         quotient: x - (left << turns),
-        left: left,
+        left,
     }
 }
 
