@@ -379,7 +379,6 @@ def entry(number, serial, mark=0, certificate=ZERO_GA):
 
 
 UNKNOWN = ("pt", 0, 0, 0, 0, 0)
-CURVE = ("curve", 0, 0, 0, 0, 0)
 UNSOUND = ("ga", 10**8 + 1, 0, 0, 0, 0)
 
 # Free places, with a bad certificate and with one that would be live.
@@ -1138,20 +1137,6 @@ SELF_CHECKS = (
         read_water,
         [entry(7, 1), entry(8, 0, 0, UNSOUND)],
         7,
-    ),
-    (
-        "the curve is no certificate: held",
-        "refused 23",
-        read_water,
-        [entry(7, 1), entry(8, 1, 0, CURVE)],
-        7,
-    ),
-    (
-        "the curve is no certificate: imported",
-        "refused 3",
-        imports,
-        [entry(7, 1), FREE],
-        entry(7, 2, 0, CURVE),
     ),
     ("read, 23 before 20", "refused 23", read_water, TWICE, 8),
     ("read, 20 before 1", "refused 20", register.read, [entry(7, 1, 1)], 7, 0, 0),

@@ -8,7 +8,7 @@ was given, sound or not: (name, a, b, c, d, W(Al)) with the name of its law.
 from typing import NamedTuple
 
 import reading
-from certificate import SUBRANGES, given
+from certificate import given
 from quantity import Refused
 
 FREE = 0  # the number of a free place; it names no thermometer
@@ -27,12 +27,7 @@ def live(entry):
 
 
 def fault(certificate):
-    """The number, 3 or 7, that refuses a certificate, or None.
-
-    It names a subrange: the curve is read without a certificate.
-    """
-    if certificate[0] not in SUBRANGES:
-        return 3
+    """The number, 3 or 7, that refuses a certificate as given, or None."""
     try:
         given(*certificate)
     except Refused as refused:

@@ -14,7 +14,7 @@ from collections import Counter
 
 import register
 from cases import CheckFailed, family, fields
-from certificate import SUBRANGES
+from certificate import LAWS
 from promises import Survey as ReadingSurvey
 from promises import check_seen, faultless, outcome, reading
 from register import Entry
@@ -28,18 +28,18 @@ DIVISOR = 25000000000
 RESISTANCES = (0, 27500000000, 69539313500, 112500000000, 24000000000, 100000000000)
 
 SOUND = (
-    ("sn", 0, 0, 0, 0, 0),
+    ("curve", 0, 0, 0, 0, 0),
     ("ga", 0, 0, 0, 0, 0),
     ("ga", -58346744, 0, 0, 0, 0),
     ("zn", 100, -200, 0, 0, 0),
     ("ag", 0, 0, 0, 0, 3376008600),
     ("ag", 1, 2, 3, 4, 3376008600),
 )
-# Of no law, with a coefficient beyond its limit, by the curve, which has none.
+# Of no law, with a coefficient beyond its limit, with an unused place not 0.
 BAD = (
     ("?", 0, 0, 0, 0, 0),
     ("ga", 100000001, 0, 0, 0, 0),
-    ("curve", 0, 0, 0, 0, 0),
+    ("curve", 0, 0, 0, 0, 1),
 )
 
 # Of a law that is not drawn, and a resistance in its range.
@@ -132,7 +132,7 @@ def held_twice(table):
 def held_badly(table):
     """Whether the table holds a bad certificate."""
     certificates = [entry.certificate for entry in held_in(table)]
-    return any(c[0] not in SUBRANGES or not faultless(*c) for c in certificates)
+    return any(c[0] not in LAWS or not faultless(*c) for c in certificates)
 
 
 def bad_table(table):
@@ -218,13 +218,13 @@ class Past:
 def import_refusals(table, entries):
     """Every refusal of 23, 3, 7, 17, 18 and 19 with a cause, in this order."""
     names = {entry.certificate[0] for entry in entries}
-    known = [entry for entry in entries if entry.certificate[0] in SUBRANGES]
+    known = [entry for entry in entries if entry.certificate[0] in LAWS]
     held = {(e.number, e.serial): e.certificate for e in held_in(table)}
     listed = {(e.number, e.serial, e.certificate) for e in held_in(entries)}
     both = by_thermometer(table).keys() | by_thermometer(entries).keys()
     causes = {
         23: bad_table(table),
-        3: not names <= set(SUBRANGES),
+        3: not names <= set(LAWS),
         7: not all(faultless(*entry.certificate) for entry in known),
         # Fewer thermometers than entries.
         17: len(by_thermometer(entries)) < len(entries),
@@ -558,9 +558,10 @@ LEAST["orders", "lists, one accepts both"] = 5
 # By the laws that are drawn.
 LEAST_READINGS = {
     (law, what): 20
-    for law in ("sn", "ga", "zn", "ag")
+    for law in ("curve", "ga", "zn", "ag")
     for what in ("answered", 1, 2, 8, 9)
 }
+del LEAST_READINGS["curve", 8]  # no resistance lies below the curve
 del LEAST_READINGS["ag", 9]  # and none above silver, but by 2
 
 

@@ -38,19 +38,19 @@ use Rattle.reading.specs.Forward.{forward_certificate}
 use Rattle.reading.proofs.LeastRatio.{inside, ratio_most}
 use Rattle.text.specs.Decimal.{decimal}
 use Rattle.text.specs.Columns.{Value, letter_at, integer_at, count_at}
-use Rattle.text.proofs.Decimals.{few-digits}
+use Rattle.text.proofs.Decimals.{few_digits}
 use Rattle.row.specs.Places.{given_at}
 use Rattle.row.specs.Limits.{limits}
 use Rattle.row.specs.Records.{record_from}
 use Rattle.row.specs.Resistances.{resistances_from}
 use Rattle.line.specs.Writing.{commaed}
-use Rattle.line.specs.Promised.{one_digit, LinesKept}
+use Rattle.line.specs.Promised.{LinesKept}
 use Rattle.line.proofs.Unique.{Small, lines_kept}
 use Rattle.line.proofs.Short.{names_short, name-short, letter-short, signed_few, small_row}
 use Rattle.bench.specs.Certificates.{places_written, records, resistances}
 use Rattle.bench.specs.Forward.{steps}
 use Rattle.bench.specs.Tolerances.{result_word, tolerances}
-use Rattle.bench.proofs.Unique.{record_row, resistances-row, step_row, test_row}
+use Rattle.bench.proofs.Unique.{record_row, resistances_row, step_row, test_row}
 use Rattle.bench.specs.Rooms.{certificate_room, ratio_room, result_room}
 
 -- how many bytes the own columns of an answer take, a comma after each counted
@@ -74,7 +74,7 @@ places-short s ratios a e is =
       signed_few 8 k.b (omega (arith, sized.small.b)),
       signed_few 8 k.c (omega (arith, sized.small.c)),
       signed_few 8 k.d (omega (arith, sized.small.d)),
-      few-digits 9 k.wal.0 (omega (arith, sized.aluminium)),
+      few_digits 9 k.wal.0 (omega (arith, sized.aluminium)),
     )))
 
 small_record : (row : List Value) (o : Outcome LawAndPlaces) → Follows (records.rule row) o → Small records places_bytes o
@@ -82,8 +82,8 @@ small_record row =
     let cells = record_from row in
     small_row records places_bytes no_places (subrange_named cells.subrange.0) (λ s. record_of s cells) (λ s. refl) (omega arith) (λ s n a. places-short s cells a)
 
-pub records_kept : LinesKept records one_digit certificate_room
-records_kept = lines_kept records places_bytes record_row small_record (λ line w o. names_short _ name-short _ _ _ _ line w) (omega arith) (omega arith)
+pub records_kept : LinesKept records certificate_room
+records_kept = lines_kept records places_bytes record_row small_record (names_short _ name-short _ _ _ _) (omega arith) (omega arith)
 
 small-resistances : (row : List Value) (o : Outcome LawAndPlaces) → Follows (resistances.rule row) o → Small resistances places_bytes o
 small-resistances row =
@@ -91,8 +91,8 @@ small-resistances row =
     small_row resistances places_bytes no_places (subrange_named cells.subrange.0) (λ s. resistances_of s cells) (λ s. refl) (omega arith)
     (λ s n a e. places-short s (ratios_of cells) a (passed (outside cells) 1 (record_of s (ratios_of cells)).tests (omega arith) e).1)
 
-pub resistances_kept : LinesKept resistances one_digit certificate_room
-resistances_kept = lines_kept resistances places_bytes (resistances-row limits) small-resistances (λ line w o. names_short _ name-short _ _ _ _ line w) (omega arith) (omega arith)
+pub resistances_kept : LinesKept resistances certificate_room
+resistances_kept = lines_kept resistances places_bytes (resistances_row limits) small-resistances (names_short _ name-short _ _ _ _) (omega arith) (omega arith)
 
 -- ---- steps taken forward
 ratio-short : (given : Given) (step : ℤ) (law : Law) (a : LawAndRatio) → number_given (forward_certificate (certificate_of law given) step).tests ≡ 0
@@ -100,7 +100,7 @@ ratio-short : (given : Given) (step : ℤ) (law : Law) (a : LawAndRatio) → num
 ratio-short given step law a e h =
     let inside-range = (both_pass (sound_tests (certificate_of law given)) (step_tests (range_of law).bottom (range_of law).top step) refl e).1 in
     let w : a.ratio ≤ largest_ratio = ratio_most law given.places step a.ratio inside-range h.1 in
-    simp length-append (omega (arith, few-digits 9 a.ratio (omega arith)))
+    simp length-append (omega (arith, few_digits 9 a.ratio (omega arith)))
 
 small-step : (row : List Value) (o : Outcome LawAndRatio) → Follows (steps.rule row) o → Small steps ratio_bytes o
 small-step row =
@@ -108,8 +108,8 @@ small-step row =
     small_row steps ratio_bytes no_ratio (law_named given.law.0) (λ law. forward_certificate (certificate_of law given) (integer_at 2 row)) (λ law. refl) (omega arith)
     (λ law n. ratio-short given (integer_at 2 row) law)
 
-pub steps_kept : LinesKept steps one_digit ratio_room
-steps_kept = lines_kept steps ratio_bytes step_row small-step (λ line w o. names_short _ name-short _ _ _ _ line w) (omega arith) (omega arith)
+pub steps_kept : LinesKept steps ratio_room
+steps_kept = lines_kept steps ratio_bytes step_row small-step (names_short _ name-short _ _ _ _) (omega arith) (omega arith)
 
 -- ---- tolerance tests
 -- no class goes past the curve
@@ -125,9 +125,9 @@ class_top letter class = by (eqb letter (code "A")) (eqb letter (code "B"))
 error-small : (bath value step : ℤ) → first ≤ℤ bath → bath ≤ℤ last → Largest exact first last value step → nat_abs (step -ℤ bath) ≤ 10_500_000
 error-small bath value step p q l = omega (ints, l.from_first, l.to_last, sub_parts step bath, abs_parts (step -ℤ bath), one_part (step -ℤ bath))
 
-pub word-few : (passes : Bool) → length (result_word passes ++ ascii ",") ≤ 5
-word-few true = omega arith
-word-few false = omega arith
+pub word_few : (passes : Bool) → length (result_word passes ++ ascii ",") ≤ 5
+word_few true = omega arith
+word_few false = omega arith
 
 result_short : (bath : ℤ) (r r0 : ℕ) (class : Class) → class.top ≤ℤ last → (a : Result) → number_given (test_by_class class bath r r0).tests ≡ 0
     → (test_by_class class bath r r0).Answer a → length (commaed (tolerances.written a)) ≤ result_bytes
@@ -135,7 +135,7 @@ result_short bath r r0 class top a e (step, l, is) =
     let value = units (ratio_of r r0) in
     let within = inside first class.top bath (both_pass (step_tests first class.top bath) (ratio_tests r r0 ++ value_tests range value) refl e).0 in
     let error = error-small bath value step within.0 (omega (ints, within.1)) l in
-    rw is (simp length-append (omega (arith, simp length-append at (word-few (allows class bath (step -ℤ bath))), signed_few 7 (step -ℤ bath) (omega arith))))
+    rw is (simp length-append (omega (arith, simp length-append at (word_few (allows class bath (step -ℤ bath))), signed_few 7 (step -ℤ bath) (omega arith))))
 
 small_test : (row : List Value) (o : Outcome Result) → Follows (tolerances.rule row) o → Small tolerances result_bytes o
 small_test row =
@@ -143,5 +143,5 @@ small_test row =
     small_row tolerances result_bytes no_result (class_named letter) (λ class. test_by_class class (integer_at 2 row) (count_at 3 row) (count_at 4 row)) (λ class. refl) (omega arith)
     (λ class n. result_short (integer_at 2 row) (count_at 3 row) (count_at 4 row) class (class_top letter class n))
 
-pub results_kept : LinesKept tolerances one_digit result_room
-results_kept = lines_kept tolerances result_bytes (test_row limits) small_test (λ line w o. names_short _ letter-short _ _ _ _ line w) (omega arith) (omega arith)
+pub results_kept : LinesKept tolerances result_room
+results_kept = lines_kept tolerances result_bytes (test_row limits) small_test (names_short _ letter-short _ _ _ _) (omega arith) (omega arith)

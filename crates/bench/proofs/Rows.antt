@@ -1,5 +1,5 @@
 -- What is written of a record's answer is the answer to its row.
-use mathlib.Core.Path.{◌≡◌, refl}
+use mathlib.Core.Path.{◌≡◌}
 use mathlib.Core.Bool.{true}
 use mathlib.Core.List.{List}
 use Prim.Native.Nat.{ℕ}
@@ -18,5 +18,5 @@ use Rattle.bench.specs.Certificates.{certificates, CertificatePlaced}
 pub certificate_answered : (columns : List Column) (rule : List Value → Rule LawAndPlaces) (line out out' : List ℕ) (x : Placing) → well_formed columns line ≡ true
     → (n : ℕ) → Repeated line n → (a : CertificateAnswer) → Follows (rule (values columns line)) (stated a) → CertificatePlaced a (take n line) out out' x
     → AnsweredAs (certificates columns rule) line out out' x
-certificate_answered columns rule line out out' x w n names (Certificate k) f p = placed-answered (certificates columns rule) line out out' x w (λ o. refl) n names (held k) f p
-certificate_answered columns rule line out out' x w n names (Refused why) f p = placed-refused (certificates columns rule) line out out' x w (λ o. refl) n names no_places why f p
+certificate_answered columns rule line out out' x w n names (Certificate k) f p = placed-answered (certificates columns rule) line out out' x w n names (held k) f p
+certificate_answered columns rule line out out' x w n names (Refused why) f p = placed-refused (certificates columns rule) line out out' x w n names no_places why f p

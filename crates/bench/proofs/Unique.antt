@@ -22,8 +22,8 @@ pub record_row : (row : List Value) (o o' : Outcome LawAndPlaces) → Follows (r
 record_row row = record_unique (record_from row)
 
 -- ---- a record of resistances
-pub resistances-row : (limits : Limits) (row : List Value) (o o' : Outcome LawAndPlaces) → Follows ((resistances_up_to limits).rule row) o → Follows ((resistances_up_to limits).rule row) o' → o ≡ o'
-resistances-row limits row = resistances_unique limits.largest (resistances_from row)
+pub resistances_row : (limits : Limits) (row : List Value) (o o' : Outcome LawAndPlaces) → Follows ((resistances_up_to limits).rule row) o → Follows ((resistances_up_to limits).rule row) o' → o ≡ o'
+resistances_row limits row = resistances_unique limits.largest (resistances_from row)
 
 -- ---- a step taken forward
 pub step_row : (row : List Value) (o o' : Outcome LawAndRatio) → Follows (steps.rule row) o → Follows (steps.rule row) o' → o ≡ o'

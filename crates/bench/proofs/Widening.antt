@@ -15,7 +15,7 @@ use Rattle.line.proofs.Widening.{only_refused_move, raised}
 use Rattle.bench.specs.Certificates.{resistances_up_to}
 use Rattle.bench.specs.Tolerances.{tolerances_up_to}
 use Rattle.bench.specs.Promised.{ResistanceListWidens, ToleranceListWidens}
-use Rattle.bench.proofs.Unique.{resistances-row, test_row}
+use Rattle.bench.proofs.Unique.{resistances_row, test_row}
 
 module _ (few many : ℕ) (h : few ≤ many) where
   tests-eased : AllEased (tests.columns_up_to few) (tests.columns_up_to many)
@@ -33,7 +33,7 @@ pub resistances_widen : ResistanceListWidens
 resistances_widen before after h =
     only_refused_move (resistances_up_to after) (resistances_up_to before).columns (resistances_up_to before).rule refl (pairs-eased before.digits after.digits h.digits)
     (λ row. rule-widens (pairs.resistances_from row) before.largest after.largest h.largest)
-    (one_answer (resistances_up_to after) (resistances-row after))
+    (one_answer (resistances_up_to after) (resistances_row after))
 
 pub resistances-raised : Raised resistances_up_to
 resistances-raised = raised resistances_up_to resistances_widen

@@ -16,7 +16,7 @@ use Rattle.row.specs.Limits.{Limits, limits}
 use Rattle.row.specs.Records as ratios
 use Rattle.row.specs.Resistances as pairs
 use Rattle.line.specs.declared.lent.Placing.{Placing}
-use Rattle.line.specs.Kinds.{Kind, repeated, blanks}
+use Rattle.line.specs.Kinds.{Kind, blanks}
 use Rattle.line.specs.Lent.{PlacedAs}
 use Rattle.line.specs.Writing.{commaed, refused_text}
 
@@ -35,7 +35,6 @@ certificates columns rule = record {
   own = place_titles;
   Answer = LawAndPlaces;
   rule = rule;
-  shown = repeated;
   written = λ a. places_written a.places;
 }
 

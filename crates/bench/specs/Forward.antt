@@ -4,7 +4,7 @@ use Rattle.law.specs.Answers.{LawAndRatio}
 use Rattle.reading.specs.Forward.{forward_given}
 use Rattle.text.specs.Decimal.{decimal}
 use Rattle.row.specs.Forward.{columns, row_from}
-use Rattle.line.specs.Kinds.{Kind, repeated}
+use Rattle.line.specs.Kinds.{Kind}
 
 -- The ratio w of a row's step t by its certificate.
 abbrev pub steps : Kind
@@ -14,6 +14,5 @@ steps = record {
   own = "w" ∷ [];
   Answer = LawAndRatio;
   rule = λ row. let said = row_from 0 row in forward_given said.certificate said.step.0;
-  shown = repeated;
   written = λ a. decimal a.ratio ∷ [];
 }

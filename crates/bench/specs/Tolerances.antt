@@ -5,7 +5,7 @@ use Rattle.curve.specs.Tolerance.{Result, tolerance_test_up_to}
 use Rattle.text.specs.Decimal.{signed_decimal}
 use Rattle.row.specs.Limits.{Limits, limits}
 use Rattle.row.specs.Tolerances.{columns_up_to, row_from}
-use Rattle.line.specs.Kinds.{Kind, repeated}
+use Rattle.line.specs.Kinds.{Kind}
 
 abbrev pub result_word : Bool → List ℕ
 result_word true = ascii "pass"
@@ -19,7 +19,6 @@ tolerances_up_to most = record {
   own = "result" ∷ "error" ∷ [];
   Answer = Result;
   rule = λ row. let said = row_from 0 row in tolerance_test_up_to most.largest said.class said.bath.0 said.r.0 said.r0.0;
-  shown = repeated;
   written = λ a. result_word a.passes ∷ signed_decimal a.error ∷ [];
 }
 

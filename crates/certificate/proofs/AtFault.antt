@@ -160,9 +160,9 @@ or_later : (a b : Bool) → b ≡ true → (a || b) ≡ true
 or_later true b e = refl
 or_later false b e = e
 
-pub fault-found : FaultFound
+pub fault_found : FaultFound
 unfolding cell_at_fault
-fault-found ratios o h e =
+fault_found ratios o h e =
     named-found (λ s. record_of s ratios) (λ s. at_fault s ratios) o (λ s. found s ratios) (subrange_named ratios.subrange.0) h (or_later (eqb o.code 1) (among (2 ∷ 4 ∷ 6 ∷ []) o.code) e)
 
 pub none_at_fault : NoneAtFault

@@ -110,8 +110,8 @@ tests_passed s ratios e =
 passed_sound : (s : Subrange) (ratios : Record) → Passed s ratios → sound (made s ratios) ≡ true
 passed_sound s ratios p = made-sound ratios p.not-above p.kept s p.none_missing p.not_beyond
 
-tested-sound : (s : Subrange) (ratios : Record) (k : Certificate) → Follows (record_of s ratios) (answered (held k)) → sound k ≡ true
-tested-sound s ratios k h =
+tested_sound : (s : Subrange) (ratios : Record) (k : Certificate) → Follows (record_of s ratios) (answered (held k)) → sound k ≡ true
+tested_sound s ratios k h =
     let a = answer-follows (record_of s ratios) (answered (held k)) refl h in
     subst (λ (k : Certificate). sound k ≡ true) (held_unique (made s ratios) k (sym a.1)) (passed_sound s ratios (tests_passed s ratios a.0))
 
@@ -120,7 +120,7 @@ record_sound ratios k = by (subrange_named ratios.subrange.0)
   where
     by : (named : Option Subrange) → Follows (if_named no_places named (λ s. record_of s ratios)) (answered (held k)) → sound k ≡ true
     by none e = absurd (let z : ◌≡◌ {A = ℕ} 0 3 = ap (λ (o : Outcome LawAndPlaces). o.code) e in omega arith)
-    by (some s) h = tested-sound s ratios k h
+    by (some s) h = tested_sound s ratios k h
 
 -- its coefficients keep their limit, and W(Al) is a ratio of the record
 pub record Sized (k : Places) : Type 0 where

@@ -2,22 +2,16 @@
 use Rattle.std.specs.Prelude.{Bool, ◌&&◌, not, ℕ, eqb, ltb, ℤ}
 use Rattle.std.specs.Int.Signed.{lt_z}
 use Rattle.whole.specs.Choice.{if◌then◌else◌}
-use Rattle.quantity.specs.Outcomes.{number_given, Rule, if_named}
-use Rattle.law.specs.declared.laws.Law.TheVariants.{Scale}
-use Rattle.law.specs.Subranges.{subrange_named}
+use Rattle.quantity.specs.Outcomes.{number_given}
 use Rattle.deviation.specs.declared.places.Places.{Places}
 use Rattle.certificate.specs.declared.soundness.Given.{Given}
-use Rattle.certificate.specs.Certificate.{LawAndPlaces, no_places, given_by}
+use Rattle.certificate.specs.Certificate.{no_places, given_rule}
 use Rattle.entry.specs.declared.entry.Serial.{Serial}
 use Rattle.entry.specs.declared.entry.Entry.{Entry}
 
--- A certificate names a subrange of the scale. The curve is read without one: its name is no certificate's. 3: no subrange has the name; then 7: it is not sound.
-abbrev pub certificate_rule : Given → Rule LawAndPlaces
-certificate_rule k = if_named no_places (subrange_named k.law.0) (λ s. given_by (Scale s) k)
-
--- The number that refuses a certificate, 0 where it is good.
+-- The number that refuses a certificate: 3 where no law has its name, 7 where it is not sound; 0 where it is good.
 abbrev pub fault : Given → ℕ
-fault k = number_given (certificate_rule k).tests
+fault k = number_given (given_rule k).tests
 
 abbrev pub is_unknown : Given → Bool
 is_unknown k = eqb (fault k) 3

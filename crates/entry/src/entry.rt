@@ -4,7 +4,7 @@ ghost use Rattle.entry.specs.Entry.{is_unknown, is_unsound, is_bad, alike as ali
 
 use certificate::{Certificate, Given};
 use deviation::Places;
-use law::{Law, Name, NamedSubrange, Subrange};
+use law::{Law, Name, NamedLaw};
 use quantity::Ratio;
 
 // A thermometer's number. 0 names none.
@@ -24,24 +24,23 @@ pub struct Entry {
     pub certificate: Given,
 }
 
-// Whether no subrange has a certificate's name: it is refused by 3. The curve is no certificate's law.
+// Whether no law has a certificate's name: it would be refused by 3.
 pub fn is_unknown(k: Given) -> bool
     ensures { result ≡ is_unknown k }
 {
-    match Subrange::named(k.law) {
-        NamedSubrange::Unknown => true,
-        NamedSubrange::Known(_) => false,
+    match Law::named(k.law) {
+        NamedLaw::Unknown => true,
+        NamedLaw::Known(_) => false,
     }
 }
 
-// Whether a certificate's subrange is known and it is not sound: it is refused by 7.
+// Whether a certificate's law is known and it is not sound: it would be refused by 7.
 pub fn is_unsound(k: Given) -> bool
     ensures { result ≡ is_unsound k }
 {
-    match Subrange::named(k.law) {
-        NamedSubrange::Unknown => false,
-        NamedSubrange::Known(subrange) => {
-            let law = Law::Scale(subrange);
+    match Law::named(k.law) {
+        NamedLaw::Unknown => false,
+        NamedLaw::Known(law) => {
             let places = k.places;
             let certificate = Certificate { law, places };
             !certificate.is_sound()
@@ -49,7 +48,7 @@ pub fn is_unsound(k: Given) -> bool
     }
 }
 
-// Whether a certificate is refused, by 3 or by 7.
+// Whether a certificate would be refused, by 3 or by 7.
 pub fn is_bad(k: Given) -> bool
     ensures { result ≡ is_bad k }
 {

@@ -1,16 +1,12 @@
--- A reading by what the table has of a thermometer: once 23 and 20 are passed it is the certificate's own; it is looking up and then reading; and what moves where
--- a larger resistance is allowed.
+-- A reading by what the table has of a thermometer: once 23 and 20 are passed it is the certificate's own; and what moves where a larger resistance is allowed.
 use mathlib.Core.Path.{◌≡◌, refl}
 use mathlib.Core.Bool.{Bool, true, false, not}
 use mathlib.Core.List.{◌∷◌}
 use mathlib.Core.Option.{Option, none, some}
 use Prim.Native.Nat.{ℕ}
-use Rattle.quantity.specs.declared.refusal.Refusal.{Refusal}
-use Rattle.quantity.specs.Refusals.{number_of}
 use Rattle.quantity.specs.Quantities.{ratio_of}
-use Rattle.quantity.specs.Outcomes.{Outcome, refused, ◌gives◌, Rule, Follows, if_named}
+use Rattle.quantity.specs.Outcomes.{Outcome, ◌gives◌, Rule, Follows, if_named}
 use Rattle.quantity.specs.Promised.{OnlyOnesMove, Widens}
-use Rattle.quantity.proofs.Outcomes.{some_number, follows-refusal}
 use Rattle.quantity.proofs.Widening.{none_moves, ratio-among}
 use Rattle.law.specs.declared.laws.Law.{Law}
 use Rattle.law.specs.Subranges.{law_named}
@@ -22,9 +18,8 @@ use Rattle.reading.specs.Laws.{value_of, range_of}
 use Rattle.reading.specs.Reading.{read_certificate_up_to, read_certificate, read_given}
 use Rattle.reading.proofs.Unique.{same_step}
 use Rattle.entry.specs.declared.entry.Entry.{Entry}
-use Rattle.entry.specs.Entry.{free, is_live}
-use Rattle.examination.specs.declared.answering.Live.{Live}
-use Rattle.examination.specs.Answering.{live_of, lookup_entry, read_entry_up_to, read_entry, read_found}
+use Rattle.entry.specs.Entry.{is_live}
+use Rattle.examination.specs.Answering.{read_entry_up_to, read_entry}
 
 -- a reading's refusal carries the same zeros whatever its name names
 pub given_zeros : (k : Given) (r r0 : ℕ) → (read_given k r r0).zeros ≡ no_step
@@ -36,25 +31,6 @@ given_zeros k r r0 = by (law_named k.law.0)
 
 pub past_20 : (held : Entry) (r r0 : ℕ) (o : Outcome LawAndStep) → is_live held ≡ true → Follows (read_entry false held r r0) o → Follows (read_given held.certificate r r0) o
 past_20 held r r0 o live h = rw (given_zeros held.certificate r r0) (rw live at h)
-
--- ---- looked up, and then read
-pub look_then_read : (bad : Bool) (held : Entry) (looked : Outcome Live) (r r0 : ℕ) (o : Outcome LawAndStep)
-    → Follows (lookup_entry bad held) looked → Follows (read_found looked r r0) o → Follows (read_entry bad held r r0) o
-look_then_read bad held looked r r0 o = by bad (is_live held) refl
-  where
-    by : (t l : Bool) → is_live held ≡ l → Follows (lookup_entry t held) looked → Follows (read_found looked r r0) o → Follows (read_entry t held r r0) o
-    by true l live h k = rw h at k
-    by false false live h k =
-        let f : looked ≡ refused (live_of free) 20 = rw live at h in
-        rw live (rw f at k)
-    by false true live h k =
-        let f : (looked.code ≡ 0) × (looked.answer ≡ live_of held) = rw live at h in
-        rw live (rw (f.0, f.1) at k)
-
--- what looking up refuses, the reading refuses by the same number
-pub refused-found : (why : Refusal) (r r0 : ℕ) → Follows (read_found (refused (live_of free) (number_of why)) r r0) (refused no_step (number_of why))
-refused-found why r r0 =
-    follows-refusal (read_found (refused (live_of free) (number_of why)) r r0) (number_of why) (some_number why) (rw (some_number why) refl)
 
 -- ---- a larger resistance allowed
 -- a reading by what is held, whatever its law's name names

@@ -1,8 +1,8 @@
--- No two answers of an import or a withdrawal state the same number, and what is found of an entry and what it reads is one answer.
-use mathlib.Core.Path.{◌≡◌, refl, sym, ◌∙◌, ap}
+-- No two answers of an import or a withdrawal state the same number, and what an entry reads is one answer.
+use mathlib.Core.Path.{◌≡◌, refl, sym, ap}
 use mathlib.Core.Bool.{Bool}
 use Prim.Native.Nat.{ℕ}
-use Rattle.quantity.specs.Outcomes.{Outcome, Follows}
+use Rattle.quantity.specs.Outcomes.{Follows}
 use Rattle.quantity.proofs.Refusals.{number_unique, not-zero}
 use Rattle.quantity.proofs.Outcomes.{one-outcome}
 use Rattle.law.specs.declared.answer.ReadingAnswer.{ReadingAnswer}
@@ -12,10 +12,7 @@ use Rattle.reading.proofs.Unique as reading
 use Rattle.entry.specs.declared.entry.Entry.{Entry}
 use Rattle.examination.specs.declared.answering.Change.{Change}
 use Rattle.examination.specs.declared.answering.Change.TheVariants.{Made, Refused}
-use Rattle.examination.specs.declared.answering.LookupAnswer.{LookupAnswer}
-use Rattle.examination.specs.declared.answering.LookupAnswer.TheVariants as lookup
-use Rattle.examination.specs.declared.answering.Live.{Live}
-use Rattle.examination.specs.Answering.{stated, lookup_entry, found, read_entry}
+use Rattle.examination.specs.Answering.{stated, read_entry}
 
 pub change_unique : (x y : Change) → stated x ≡ stated y → x ≡ y
 change_unique Made Made e = refl
@@ -26,13 +23,3 @@ change_unique (Refused v) (Refused w) e = ap Refused (number_unique v w e)
 pub one_reading : (bad : Bool) (held : Entry) (r r0 : ℕ) (x y : ReadingAnswer) → Follows (read_entry bad held r r0) (read_as x) → Follows (read_entry bad held r r0) (read_as y) → x ≡ y
 one_reading bad held r r0 x y h i =
     stated_unique x y (one-outcome (read_entry bad held r r0) (reading.given_same_step held.certificate r r0) (read_as x) (read_as y) h i)
-
--- what was found or why not is told from the outcome
-found_unique : (x y : LookupAnswer) → found x ≡ found y → x ≡ y
-found_unique (lookup.Found k) (lookup.Found l) e = ap (λ (o : Outcome Live). lookup.Found o.answer) e
-found_unique (lookup.Found k) (lookup.Refused why) e = absurd (not-zero why (ap (λ (o : Outcome Live). o.code) e))
-found_unique (lookup.Refused why) (lookup.Found k) e = absurd (not-zero why (sym (ap (λ (o : Outcome Live). o.code) e)))
-found_unique (lookup.Refused v) (lookup.Refused w) e = ap lookup.Refused (number_unique v w (ap (λ (o : Outcome Live). o.code) e))
-
-pub one_lookup : (bad : Bool) (held : Entry) (x y : LookupAnswer) → Follows (lookup_entry bad held) (found x) → Follows (lookup_entry bad held) (found y) → x ≡ y
-one_lookup bad held x y h i = found_unique x y (one-outcome (lookup_entry bad held) (λ a b p q. p ∙ sym q) (found x) (found y) h i)

@@ -1,16 +1,15 @@
-// What an import, a withdrawal, a move, looking up and a reading answer.
+// What an import, a withdrawal and a reading answer.
 ghost use Rattle.std.specs.Prelude.{◌≡◌, eqb};
 ghost use Rattle.quantity.specs.Outcomes.{number_given, Follows};
 ghost use Rattle.law.specs.Answers.{stated};
-ghost use Rattle.examination.specs.Answering.{stated as number_in, import_tests, withdrawal_tests, move_tests, lookup_entry, found, read_entry, read_found};
+ghost use Rattle.examination.specs.Answering.{stated as number_in, import_tests, withdrawal_tests, read_entry};
 
 use crate::testing::{Noted, Seen};
-use certificate::Given;
-use entry::{Entry, Serial, is_free, is_live};
+use entry::{Entry, is_free, is_live};
 use law::ReadingAnswer;
 use quantity::{Nanoohm, Refusal};
 
-// Whether an import, a withdrawal or a move was accepted. A refused one leaves the table as it was.
+// Whether an import or a withdrawal was accepted. A refused one leaves the table as it was.
 #[derive(Drop)]
 pub enum Change {
     Made,
@@ -55,22 +54,6 @@ pub fn withdrawal_answer(table: Seen, held: Entry) -> Change
     Change::Made
 }
 
-// `old` is what was seen of the table that is moved, which has `old_places` places, and `table` what was seen of the new one.
-pub fn move_answer(old: Seen, table: Seen, old_places: usize, places: usize) -> Change
-    ensures { number_in result ≡ number_given (move_tests old.bad old_places places table.places) }
-{
-    if old.bad {
-        return Change::Refused(Refusal::TableBad);
-    }
-    if places < old_places {
-        return Change::Refused(Refusal::TooFewPlaces);
-    }
-    if table.places != places as u64 {
-        return Change::Refused(Refusal::TooFewPlaces);
-    }
-    Change::Made
-}
-
 pub fn accepted(change: Change) -> bool
     ensures { result ≡ eqb (number_in change) 0 }
 {
@@ -80,54 +63,16 @@ pub fn accepted(change: Change) -> bool
     }
 }
 
-// A thermometer's live certificate, with its serial.
-#[derive(Drop)]
-pub struct Live {
-    pub serial: Serial,
-    pub certificate: Given,
-}
-
-#[derive(Drop)]
-pub enum LookupAnswer {
-    Found(Live),
-    Refused(Refusal),
-}
-
-// Looks up the live certificate in what the table has of the thermometer.
-pub fn lookup_answer(table: Seen, held: Entry) -> LookupAnswer
-    ensures { Follows (lookup_entry table.bad held) (found result) }
-{
-    if table.bad {
-        return LookupAnswer::Refused(Refusal::TableBad);
-    }
-    if is_live(held) {
-        let serial = held.serial;
-        let certificate = held.certificate;
-        return LookupAnswer::Found(Live {
-            serial,
-            certificate,
-        });
-    }
-    LookupAnswer::Refused(Refusal::NotLive)
-}
-
-// A reading by what was found: by the live certificate, its law and no other.
-pub fn read_found(looked: LookupAnswer, r: Nanoohm, r0: Nanoohm) -> ReadingAnswer
-    ensures { Follows (read_found (found looked) r.0 r0.0) (stated result) }
-{
-    match looked {
-        LookupAnswer::Found(live) => {
-            let k = live.certificate;
-            reading::read(k, r, r0)
-        }
-        LookupAnswer::Refused(why) => ReadingAnswer::Refused(why),
-    }
-}
-
-// A reading by what the table has of the thermometer: looked up, and then read.
+// A reading by what the table has of the thermometer.
 pub fn reading_answer(table: Seen, held: Entry, r: Nanoohm, r0: Nanoohm) -> ReadingAnswer
     ensures { Follows (read_entry table.bad held r.0 r0.0) (stated result) }
 {
-    let looked = lookup_answer(table, held);
-    read_found(looked, r, r0)
+    if table.bad {
+        return ReadingAnswer::Refused(Refusal::TableBad);
+    }
+    if is_live(held) {
+        let k = held.certificate;
+        return reading::read(k, r, r0);
+    }
+    ReadingAnswer::Refused(Refusal::NotLive)
 }

@@ -45,18 +45,18 @@ three k p₁ p₂ p₃ ps m K₁ h₁ K₂ h₂ K₃ =
     let t = two k p₁ p₂ (p₃ ∷ ps) wide (omega arith) m K₁ h₁ K₂ in
     (t.0, (t.1, ((K₃, hits₃ k p₁ K₁ m.a p₂ K₂ (rising p₁.x p₂.x wide (omega arith) h₁) m.b p₃ K₃ (rising p₂.x p₃.x wide (omega arith) h₂) h₁ m.c), tt)))
 
-each-fitted : EachFitted Fitted
+each_fitted : EachFitted Fitted
 unfolding Fitted
-each-fitted [] n s = tt
-each-fitted (p₁ ∷ []) n s = ((s, hits₁ (fit (p₁ ∷ [])) p₁ s (made_of_differences (p₁ ∷ []) n).a), tt)
-each-fitted (p₁ ∷ p₂ ∷ []) n s =
+each_fitted [] n s = tt
+each_fitted (p₁ ∷ []) n s = ((s, hits₁ (fit (p₁ ∷ [])) p₁ s (made_of_differences (p₁ ∷ []) n).a), tt)
+each_fitted (p₁ ∷ p₂ ∷ []) n s =
     let t = two (fit (p₁ ∷ p₂ ∷ [])) p₁ p₂ [] narrow (omega arith) (made_of_differences (p₁ ∷ p₂ ∷ []) n) s.0 s.1 s.2 in
     (t.0, (t.1, tt))
-each-fitted (p₁ ∷ p₂ ∷ p₃ ∷ []) n s =
+each_fitted (p₁ ∷ p₂ ∷ p₃ ∷ []) n s =
     three (fit (p₁ ∷ p₂ ∷ p₃ ∷ [])) p₁ p₂ p₃ [] (made_of_differences (p₁ ∷ p₂ ∷ p₃ ∷ []) n) s.0 s.1 s.2.0 s.2.1 s.2.2
-each-fitted (p₁ ∷ p₂ ∷ p₃ ∷ p₄ ∷ []) n s =
+each_fitted (p₁ ∷ p₂ ∷ p₃ ∷ p₄ ∷ []) n s =
     three (fit (p₁ ∷ p₂ ∷ p₃ ∷ p₄ ∷ [])) p₁ p₂ p₃ (p₄ ∷ []) (made_of_differences (p₁ ∷ p₂ ∷ p₃ ∷ p₄ ∷ []) n) s.0 s.1 s.2.0 s.2.1 s.2.2.0
-each-fitted (p₁ ∷ p₂ ∷ p₃ ∷ p₄ ∷ p₅ ∷ ps) n s = absurd (omega arith)
+each_fitted (p₁ ∷ p₂ ∷ p₃ ∷ p₄ ∷ p₅ ∷ ps) n s = absurd (omega arith)
 
 map : {P Q : Point → Type 0} → ((p : Point) → P p → Q p) → (ps : List Point) → Each P ps → Each Q ps
 map f [] h = tt
@@ -156,8 +156,8 @@ module _ (k : Places) (p : Point) (K : Kept p) (h : Hits k p) where
 
 pub meets : Meets
 unfolding Fitted
-meets ps n s = map {P = Fitted (fit ps)} (λ p f. close (fit ps) p f.0 f.1) (take 3 ps) (each-fitted ps n s)
+meets ps n s = map {P = Fitted (fit ps)} (λ p f. close (fit ps) p f.0 f.1) (take 3 ps) (each_fitted ps n s)
 
 pub comes_back : ComesBack
 unfolding Fitted
-comes_back ps n s = map {P = Fitted (fit ps)} (λ p f. back (fit ps) p f.0 f.1) (take 3 ps) (each-fitted ps n s)
+comes_back ps n s = map {P = Fitted (fit ps)} (λ p f. back (fit ps) p f.0 f.1) (take 3 ps) (each_fitted ps n s)

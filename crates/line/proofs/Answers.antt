@@ -43,37 +43,20 @@ answered-end : (x : List ℕ) → x ++ ascii "0\r\n" ≡ x ++ decimal 0 ++ line_
 unfolding decimal
 answered-end x = sym (append_assoc x (decimal 0) line_end)
 
-module _ (kind : Kind) (line out out' : List ℕ) (x : Placing) (w : well_formed kind.columns line ≡ true) where
-  -- what stands before the own columns: the first field and what is shown in the second column
-  abbrev pub Names : List ℕ → Outcome kind.Answer → Type 0
-  Names names o = names ≡ field_at 0 line ++ ascii "," ++ kind.shown line o ++ ascii ","
+module _ (kind : Kind) (line out out' : List ℕ) (x : Placing) (w : well_formed kind.columns line ≡ true) (n : ℕ) (names : Repeated line n) where
+  placed_row : (o : Outcome kind.Answer) → Follows (kind.rule (values kind.columns line)) o
+      → PlacedAs o.code (take n line ++ commaed (own_columns kind o) ++ decimal o.code ++ line_end) out out' x → AnsweredAs kind line out out' x
+  placed_row o r p =
+      let text = ap (λ (l : List ℕ). l ++ commaed (own_columns kind o) ++ decimal o.code ++ line_end) names.first ∙ answer-text (field_at 0 line) (field_at 1 line) (own_columns kind o) o.code in
+      (o.code, answer_line (field_at 0 line) (field_at 1 line) (own_columns kind o) o.code, rw (no_fault kind.columns line w) (o, r, refl, refl), subst (λ (t : List ℕ). PlacedAs o.code t out out' x) text p)
 
-  placed_row : (names : List ℕ) (o : Outcome kind.Answer) → Names names o → Follows (kind.rule (values kind.columns line)) o
-      → PlacedAs o.code (names ++ commaed (own_columns kind o) ++ decimal o.code ++ line_end) out out' x → AnsweredAs kind line out out' x
-  placed_row names o are r p =
-      let text = ap (λ (l : List ℕ). l ++ commaed (own_columns kind o) ++ decimal o.code ++ line_end) are ∙ answer-text (field_at 0 line) (kind.shown line o) (own_columns kind o) o.code in
-      (o.code, answer_line (field_at 0 line) (kind.shown line o) (own_columns kind o) o.code, rw (no_fault kind.columns line w) (o, r, refl, refl), subst (λ (t : List ℕ). PlacedAs o.code t out out' x) text p)
+  pub placed-answered : (a : kind.Answer) → Follows (kind.rule (values kind.columns line)) (answered a)
+      → PlacedAs 0 (take n line ++ commaed (kind.written a) ++ ascii "0\r\n") out out' x → AnsweredAs kind line out out' x
+  placed-answered a r p = placed_row (answered a) r (subst (λ (t : List ℕ). PlacedAs 0 t out out' x) (answered-end (take n line ++ commaed (kind.written a))) p)
 
-  pub named-answered : (names : List ℕ) (a : kind.Answer) → Names names (answered a) → Follows (kind.rule (values kind.columns line)) (answered a)
-      → PlacedAs 0 (names ++ commaed (kind.written a) ++ ascii "0\r\n") out out' x → AnsweredAs kind line out out' x
-  named-answered names a are r p = placed_row names (answered a) are r (subst (λ (t : List ℕ). PlacedAs 0 t out out' x) (answered-end (names ++ commaed (kind.written a))) p)
-
-  pub named-refused : (names : List ℕ) (zeros : kind.Answer) (why : Refusal) → Names names (refused zeros (number_of why)) → Follows (kind.rule (values kind.columns line)) (refused zeros (number_of why))
-      → PlacedAs (number_of why) (refused_text names (commaed (blanks kind.own)) (number_of why)) out out' x → AnsweredAs kind line out out' x
-  named-refused names zeros why are r p = placed_row names (refused zeros (number_of why)) are r (rw (some_number why) p)
-
-  -- a kind that repeats the second field: the names stand at the line's start
-  module _ (again : (o : Outcome kind.Answer) → field_at 1 line ≡ kind.shown line o) (n : ℕ) (names : Repeated line n) where
-    are-names : (o : Outcome kind.Answer) → Names (take n line) o
-    are-names o = names.first ∙ ap (λ (second : List ℕ). field_at 0 line ++ ascii "," ++ second ++ ascii ",") (again o)
-
-    pub placed-answered : (a : kind.Answer) → Follows (kind.rule (values kind.columns line)) (answered a)
-        → PlacedAs 0 (take n line ++ commaed (kind.written a) ++ ascii "0\r\n") out out' x → AnsweredAs kind line out out' x
-    placed-answered a = named-answered (take n line) a (are-names (answered a))
-
-    pub placed-refused : (zeros : kind.Answer) (why : Refusal) → Follows (kind.rule (values kind.columns line)) (refused zeros (number_of why))
-        → PlacedAs (number_of why) (refused_text (take n line) (commaed (blanks kind.own)) (number_of why)) out out' x → AnsweredAs kind line out out' x
-    placed-refused zeros why = named-refused (take n line) zeros why (are-names (refused zeros (number_of why)))
+  pub placed-refused : (zeros : kind.Answer) (why : Refusal) → Follows (kind.rule (values kind.columns line)) (refused zeros (number_of why))
+      → PlacedAs (number_of why) (refused_text (take n line) (commaed (blanks kind.own)) (number_of why)) out out' x → AnsweredAs kind line out out' x
+  placed-refused zeros why r p = placed_row (refused zeros (number_of why)) r (rw (some_number why) p)
 
 -- ---- a line that is no row
 -- the names of a fault's answer, and then a comma for each own column: the first own column stands before the first comma

@@ -1,6 +1,5 @@
 -- The proofs about a line's answer.
 pub mod Placing
-pub mod Texts
 pub mod Answers
 pub mod Unique
 pub mod Short

@@ -18,7 +18,7 @@ use Rattle.text.specs.declared.columns.Holds.{Holds}
 use Rattle.text.specs.declared.columns.Holds.TheVariants.{Id, Name, Letter}
 use Rattle.text.specs.Columns.{Column, ◌holds◌, rule_of, id_byte, longest_id, longest_name, well_formed, field_at}
 use Rattle.text.specs.Fields as fields
-use Rattle.text.proofs.Decimals.{few-digits}
+use Rattle.text.proofs.Decimals.{few_digits}
 use Rattle.text.proofs.Names.{named, sized-short}
 use Rattle.line.specs.Kinds.{Kind, blanks}
 use Rattle.line.specs.Writing.{commaed}
@@ -39,8 +39,8 @@ letter-short s e = omega (arith, sized-short 1 fields.letter s e)
 
 -- a number of either sign: its digits and a minus
 pub signed_few : (k : ℕ) (z : ℤ) → nat_abs z < 10 ^ suc k → length (signed_decimal z) ≤ suc k + 1
-signed_few k (pos n) h = omega (arith, few-digits k n h)
-signed_few k (negsuc n) h = omega (arith, few-digits k (suc n) h)
+signed_few k (pos n) h = omega (arith, few_digits k n h)
+signed_few k (negsuc n) h = omega (arith, few_digits k (suc n) h)
 
 -- a row's outcome, by the rule of what its name names: own columns are empty or those of an answer that passed its tests
 module _ (kind : Kind) (bytes : ℕ) {B : Type 0} (zeros : kind.Answer) (found : Option B) (rule : B → Rule kind.Answer)

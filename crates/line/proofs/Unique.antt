@@ -8,26 +8,25 @@ use Prim.Native.String.{String}
 use native.Mathlib.Omega.{arith}
 use lib.Dec.{leb, eqb}
 use lib.ListN.{length, length-append}
-use borrow.Author.Tests.{le-leb, leb-true, eq-eqb, ne_eqb}
+use borrow.Author.Tests.{le-leb, eq-eqb, ne_eqb}
 use Rattle.whole.specs.Choice.{if◌then◌else◌}
 use Rattle.whole.specs.Text.{ascii}
 use Rattle.whole.proofs.Choice.{if_both}
 use Rattle.quantity.specs.Outcomes.{Outcome, Follows}
 use Rattle.quantity.specs.Refusals.{number_of}
-use Rattle.quantity.proofs.Outcomes.{refusal_is}
 use Rattle.quantity.specs.declared.refusal.Refusal.TheVariants.{FieldBroken}
 use Rattle.text.specs.declared.columns.Fault.{Fault}
 use Rattle.text.specs.declared.columns.Fault.TheVariants.{TooLong, WrongCount, Broken}
 use Rattle.text.specs.Decimal.{decimal}
 use Rattle.text.specs.Columns.{Column, Value, fault_of, well_formed, values, field_at}
 use Rattle.text.specs.Promised.{FirstToBreak}
-use Rattle.text.proofs.Decimals.{few-digits}
+use Rattle.text.proofs.Decimals.{few_digits}
 use Rattle.text.proofs.Faults.{first-named, a-row, some_fault}
 use Rattle.line.specs.declared.lent.LineAnswer.{LineAnswer}
 use Rattle.line.specs.Kinds.{Kind, line_end, RowAnswered, AnsweredBy, answer_line, blanks, own_columns, refusal_of, is_fault, fault_columns, nameless_line}
 use Rattle.line.specs.Writing.{commaed}
 use Rattle.line.specs.Lent.{Placed}
-use Rattle.line.specs.Promised.{OneAnswer, OneAnswerInto, AnswersFit, NumbersOfLines, one_digit, shown_refused, OthersBlank, FieldNamed, AnsweredBefore, WereTens, HadAnswer, LinesKept}
+use Rattle.line.specs.Promised.{OneAnswer, OneAnswerInto, AnswersFit, NumbersOfLines, OthersBlank, FieldNamed, AnsweredBefore, WereTens, HadAnswer, LinesKept}
 use Rattle.line.proofs.Answers.{answer-text}
 
 -- ---- in a lent buffer
@@ -40,7 +39,7 @@ module _ (kind : Kind) (one : (row : List Value) (o o' : Outcome kind.Answer) �
   row-answer : (line : List ℕ) (n n' : ℕ) (t t' : List ℕ) → RowAnswered kind line n t → RowAnswered kind line n' t' → (n ≡ n') × (t ≡ t')
   row-answer line n n' t t' (o, h, e, f) (o', h', e', f') =
       let k : o ≡ o' = one (values kind.columns line) o o' h h' in
-      (e ∙ ap (λ (o : Outcome kind.Answer). o.code) k ∙ sym e', f ∙ ap (λ (o : Outcome kind.Answer). answer_line (field_at 0 line) (kind.shown line o) (own_columns kind o) o.code) k ∙ sym f')
+      (e ∙ ap (λ (o : Outcome kind.Answer). o.code) k ∙ sym e', f ∙ ap (λ (o : Outcome kind.Answer). answer_line (field_at 0 line) (field_at 1 line) (own_columns kind o) o.code) k ∙ sym f')
 
   pub one_answer : OneAnswer kind
   one_answer line n n' t t' = by (fault_of kind.columns line)
@@ -55,13 +54,18 @@ module _ (kind : Kind) (one : (row : List Value) (o o' : Outcome kind.Answer) �
       one_placed n t out out' out'' x y p
       (subst (λ (m : ℕ). Placed m t out out'' y) (sym e.0) (subst (λ (u : List ℕ). Placed n' u out out'' y) (sym e.1) q))
 
+-- ---- of a kind whose outcomes have a number of one digit and own columns of no more than so many bytes, commas counted
+pub record Small (kind : Kind) (bytes : ℕ) (o : Outcome kind.Answer) : Type 0 where
+  pub code : o.code ≤ 9
+  pub own : length (commaed (own_columns kind o)) ≤ bytes
+
 -- the own columns of a fault have a number of at most two digits more than empty ones
 fault-columns : (titles : List String) (fault : Fault) → ((n : ℕ) → fault ≡ Broken n → n ≤ 99) → length (commaed (fault_columns titles fault)) ≤ length (commaed (blanks titles)) + 2
 fault-columns titles TooLong few = omega arith
 fault-columns titles WrongCount few = omega arith
 fault-columns [] (Broken n) few = omega arith
 fault-columns (title ∷ titles) (Broken n) few =
-    let digits : length (decimal n) ≤ 2 = few-digits 1 n (omega (arith, few n refl)) in
+    let digits : length (decimal n) ≤ 2 = few_digits 1 n (omega (arith, few n refl)) in
     let own : length (commaed (decimal n ∷ blanks titles)) ≡ length (decimal n) + 1 + length (commaed (blanks titles)) = simp length-append (omega arith) in
     omega (arith, own)
 
@@ -84,38 +88,56 @@ or_true true = refl
 or_true false = refl
 
 -- a fault that is found names a column, and no list has many
-found-few : (columns : List Column) → length columns ≤ 99 → (line : List ℕ) (fault : Fault) → fault_of columns line ≡ some fault → (n : ℕ) → fault ≡ Broken n → n ≤ 99
-found-few columns few line fault found n is = omega (arith, (first-named columns line n (found ∙ ap some is)).to_last)
+found_few : (columns : List Column) → length columns ≤ 99 → (line : List ℕ) (fault : Fault) → fault_of columns line ≡ some fault → (n : ℕ) → fault ≡ Broken n → n ≤ 99
+found_few columns few line fault found n is = omega (arith, (first-named columns line n (found ∙ ap some is)).to_last)
 
--- numbers of rows are not those of a fault, nor 10
-pub record Apart (is_rows : ℕ → Bool) : Type 0 where
-  pub no_fault : (n : ℕ) → is_rows n ≡ true → is_fault n ≡ false
-  pub not_ten : (n : ℕ) → is_rows n ≡ true → eqb n 10 ≡ false
+module _ (kind : Kind) (bytes : ℕ) (small : (row : List Value) (o : Outcome kind.Answer) → Follows (kind.rule row) o → Small kind bytes o) where
+  row-few : (line : List ℕ) (n : ℕ) (t : List ℕ) → RowAnswered kind line n t → n ≤ 9
+  row-few line n t (o, h, e, f) = omega (arith, (small (values kind.columns line) o h).code, e)
 
-module _ (kind : Kind) (is_rows : ℕ → Bool) (apart : Apart is_rows) (numbered : (row : List Value) (o : Outcome kind.Answer) → Follows (kind.rule row) o → is_rows o.code ≡ true) where
-  row_number : (line : List ℕ) (n : ℕ) (t : List ℕ) → RowAnswered kind line n t → is_rows n ≡ true
-  row_number line n t (o, h, e, f) = ap is_rows e ∙ numbered (values kind.columns line) o h
-
-  pub numbers-of-lines : NumbersOfLines kind is_rows
+  pub numbers-of-lines : NumbersOfLines kind
   numbers-of-lines line n t = by (fault_of kind.columns line)
     where
-      by : (found : Option Fault) → AnsweredBy kind line found n t → (is_rows n || is_fault n) ≡ true
-      by none h = rw (row_number line n t h)
-      by (some fault) h = rw (is-fault fault n h.0) (or_true (is_rows n))
+      by : (found : Option Fault) → AnsweredBy kind line found n t → (leb n 9 || is_fault n) ≡ true
+      by none h = rw (le-leb n 9 (row-few line n t h))
+      by (some fault) h = rw (is-fault fault n h.0) (or_true (leb n 9))
+
+  -- ---- how many bytes
+  line-few : (first second : List ℕ) (own : List (List ℕ)) (code digits : ℕ) → length (decimal code) ≤ digits
+      → length (answer_line first second own code) ≤ length first + length second + 4 + length (commaed own) + digits
+  line-few first second own code digits h =
+      let parts : length ((first ++ ascii "," ++ second ++ ascii ",") ++ commaed own ++ decimal code ++ line_end) ≡ length first + 1 + length second + 1 + length (commaed own) + length (decimal code) + 2 = simp length-append (omega arith) in
+      omega (arith, ap length (answer-text first second own code), parts)
+
+  module _ (short : (line : List ℕ) → well_formed kind.columns line ≡ true → length (field_at 0 line) + length (field_at 1 line) ≤ 24)
+      (blank : length (commaed (blanks kind.own)) ≤ bytes) (few : length kind.columns ≤ 99) where
+    pub answers-fit : AnswersFit kind (29 + bytes)
+    answers-fit line n t = by (fault_of kind.columns line) refl
+      where
+        by : (found : Option Fault) → fault_of kind.columns line ≡ found → AnsweredBy kind line found n t → length t ≤ 29 + bytes
+        by none e (o, h, i, f) =
+            let s = small (values kind.columns line) o h in
+            rw f (omega (arith, line-few (field_at 0 line) (field_at 1 line) (own_columns kind o) o.code 1 (few_digits 0 o.code (omega (arith, s.code))), s.own, short line (a-row kind.columns line e)))
+        by (some fault) e (i, f) =
+            let number = number_of (refusal_of fault) in
+            let own = fault_columns kind.own fault in
+            rw f (omega (
+              arith,
+              line-few (ascii "?") (ascii "?") own number 2 (few_digits 1 number (omega (arith, fault-number fault))),
+              fault-columns kind.own fault (found_few kind.columns few line fault e),
+              blank,
+            ))
 
   -- ---- what a refusal carries
   pub others_blank : OthersBlank kind
   others_blank line n t h not-read not-14 = by (fault_of kind.columns line) h
     where
       by : (found : Option Fault) → AnsweredBy kind line found n t
-          → t ≡ (if is_fault n then answer_line (ascii "?") (ascii "?") (blanks kind.own) n else answer_line (field_at 0 line) (shown_refused kind line n) (blanks kind.own) n)
+          → t ≡ (if is_fault n then answer_line (ascii "?") (ascii "?") (blanks kind.own) n else answer_line (field_at 0 line) (field_at 1 line) (blanks kind.own) n)
       by none (o, h, e, f) =
-          let not-0 : o.code ≡ 0 → ⊥ = λ z. not-read (e ∙ z) in
-          let own : own_columns kind o ≡ blanks kind.own = rw (ne_eqb o.code 0 not-0) in
-          let second : kind.shown line o ≡ shown_refused kind line n = ap (kind.shown line) (refusal_is (kind.rule (values kind.columns line)) o not-0 h) ∙ ap (shown_refused kind line) (sym e) in
-          rw (apart.no_fault n (row_number line n t (o, h, e, f)))
-          (f ∙ ap (λ (own : List (List ℕ)). answer_line (field_at 0 line) (kind.shown line o) own o.code) own ∙ ap (λ (second : List ℕ). answer_line (field_at 0 line) second (blanks kind.own) o.code) second
-          ∙ ap (answer_line (field_at 0 line) (shown_refused kind line n) (blanks kind.own)) (sym e))
+          let own : own_columns kind o ≡ blanks kind.own = rw (ne_eqb o.code 0 (λ z. not-read (e ∙ z))) in
+          rw (few_no_fault n (omega (arith, e, (small (values kind.columns line) o h).code)))
+          (f ∙ ap (λ (own : List (List ℕ)). answer_line (field_at 0 line) (field_at 1 line) own o.code) own ∙ ap (answer_line (field_at 0 line) (field_at 1 line) (blanks kind.own)) (sym e))
       by (some TooLong) (e, f) = rw (is-fault TooLong n e) (f ∙ ap (answer_line (ascii "?") (ascii "?") (blanks kind.own)) (sym e))
       by (some WrongCount) (e, f) = rw (is-fault WrongCount n e) (f ∙ ap (answer_line (ascii "?") (ascii "?") (blanks kind.own)) (sym e))
       by (some (Broken field)) (e, f) = absurd (not-14 e)
@@ -125,7 +147,7 @@ module _ (kind : Kind) (is_rows : ℕ → Bool) (apart : Apart is_rows) (numbere
     where
       by : (found : Option Fault) → fault_of kind.columns line ≡ found → AnsweredBy kind line found (number_of FieldBroken) t
           → (field : ℕ) × FirstToBreak kind.columns line field × (t ≡ nameless_line (fault_columns kind.own (Broken field)) FieldBroken)
-      by none e h = absurd (true≢false (apart.no_fault (number_of FieldBroken) (row_number line (number_of FieldBroken) t h)))
+      by none e h = absurd (omega (arith, row-few line (number_of FieldBroken) t h))
       by (some TooLong) e (i, f) = absurd (omega (arith, i))
       by (some WrongCount) e (i, f) = absurd (omega (arith, i))
       by (some (Broken field)) e (i, f) = (field, first-named kind.columns line field e, f)
@@ -147,68 +169,23 @@ module _ (kind : Kind) (is_rows : ℕ → Bool) (apart : Apart is_rows) (numbere
         by none e h =
             let row : RowAnswered kind line before text_before = rw (a-row kind.columns line e) at k in
             let same = row-answer kind one line n before t text_before h row in
-            (apart.no_fault n (row_number line n t h) ∙ sym (apart.not_ten before (row_number line before text_before row)), λ z. same)
+            (few_no_fault n (row-few line n t h) ∙ sym (ne_eqb before 10 (λ z. omega (arith, z, row-few line before text_before row))), λ z. same)
         by (some fault) e h =
             let ten : (before ≡ 10) × (text_before ≡ answer_line (ascii "?") (ascii "?") (blanks kind.own) 10) = rw (some_fault kind.columns line fault e) at k in
             (is-fault fault n h.0 ∙ sym (eq-eqb before 10 ten.0), λ z. absurd (true≢false (sym (is-fault fault n h.0) ∙ z)))
 
--- ---- how many bytes
-pub line_few : (first second : List ℕ) (own : List (List ℕ)) (code digits : ℕ) → length (decimal code) ≤ digits
-    → length (answer_line first second own code) ≤ length first + length second + 4 + length (commaed own) + digits
-line_few first second own code digits h =
-    let parts : length ((first ++ ascii "," ++ second ++ ascii ",") ++ commaed own ++ decimal code ++ line_end) ≡ length first + 1 + length second + 1 + length (commaed own) + length (decimal code) + 2 = simp length-append (omega arith) in
-    omega (arith, ap length (answer-text first second own code), parts)
-
-module _ (kind : Kind) (bytes : ℕ) (blank : length (commaed (blanks kind.own)) ≤ bytes) (few : length kind.columns ≤ 99)
-    (short : (line : List ℕ) → well_formed kind.columns line ≡ true → (o : Outcome kind.Answer) → Follows (kind.rule (values kind.columns line)) o
-    → length (answer_line (field_at 0 line) (kind.shown line o) (own_columns kind o) o.code) ≤ 29 + bytes) where
-  pub answers-fit : AnswersFit kind (29 + bytes)
-  answers-fit line n t = by (fault_of kind.columns line) refl
-    where
-      by : (found : Option Fault) → fault_of kind.columns line ≡ found → AnsweredBy kind line found n t → length t ≤ 29 + bytes
-      by none e (o, h, i, f) = rw f (short line (a-row kind.columns line e) o h)
-      by (some fault) e (i, f) =
-          let number = number_of (refusal_of fault) in
-          let own = fault_columns kind.own fault in
-          rw f (omega (
-            arith,
-            line_few (ascii "?") (ascii "?") own number 2 (few-digits 1 number (omega (arith, fault-number fault))),
-            fault-columns kind.own fault (found-few kind.columns few line fault e),
-            blank,
-          ))
-
--- ---- of a kind whose outcomes have a number of one digit and own columns of no more than so many bytes, commas counted
-pub record Small (kind : Kind) (bytes : ℕ) (o : Outcome kind.Answer) : Type 0 where
-  pub code : o.code ≤ 9
-  pub own : length (commaed (own_columns kind o)) ≤ bytes
-
-apart_one_digit : Apart one_digit
-apart_one_digit = record {
-  no_fault = λ n e. few_no_fault n (leb-true n 9 e);
-  not_ten = λ n e. ne_eqb n 10 (λ z. omega (arith, z, leb-true n 9 e));
-}
-
 -- ---- and so all of these
 pub lines_kept : (kind : Kind) (bytes : ℕ) → ((row : List Value) (o o' : Outcome kind.Answer) → Follows (kind.rule row) o → Follows (kind.rule row) o' → o ≡ o')
     → ((row : List Value) (o : Outcome kind.Answer) → Follows (kind.rule row) o → Small kind bytes o)
-    → ((line : List ℕ) → well_formed kind.columns line ≡ true → (o : Outcome kind.Answer) → length (field_at 0 line) + length (kind.shown line o) ≤ 24)
-    → length (commaed (blanks kind.own)) ≤ bytes → length kind.columns ≤ 99 → LinesKept kind one_digit (29 + bytes)
-lines_kept kind bytes one small names blank few = record {
+    → ((line : List ℕ) → well_formed kind.columns line ≡ true → length (field_at 0 line) + length (field_at 1 line) ≤ 24)
+    → length (commaed (blanks kind.own)) ≤ bytes → length kind.columns ≤ 99 → LinesKept kind (29 + bytes)
+lines_kept kind bytes one small short blank few = record {
   one = one_answer kind one;
   one_into = one-answer-into kind one;
-  fit = answers-fit kind bytes blank few short;
-  numbers = numbers-of-lines kind one_digit apart_one_digit numbered;
-  others_blank = others_blank kind one_digit apart_one_digit numbered;
-  field-named = field-named kind one_digit apart_one_digit numbered;
-  were_tens = were_tens kind one_digit apart_one_digit numbered one;
-  had-answer = had-answer kind one_digit apart_one_digit numbered;
+  fit = answers-fit kind bytes small short blank few;
+  numbers = numbers-of-lines kind bytes small;
+  others_blank = others_blank kind bytes small;
+  field-named = field-named kind bytes small;
+  were_tens = were_tens kind bytes small one;
+  had-answer = had-answer kind bytes small;
 }
-  where
-    numbered : (row : List Value) (o : Outcome kind.Answer) → Follows (kind.rule row) o → one_digit o.code ≡ true
-    numbered row o h = le-leb o.code 9 (small row o h).code
-
-    short : (line : List ℕ) → well_formed kind.columns line ≡ true → (o : Outcome kind.Answer) → Follows (kind.rule (values kind.columns line)) o
-        → length (answer_line (field_at 0 line) (kind.shown line o) (own_columns kind o) o.code) ≤ 29 + bytes
-    short line w o h =
-        let s = small (values kind.columns line) o h in
-        omega (arith, line_few (field_at 0 line) (kind.shown line o) (own_columns kind o) o.code 1 (few-digits 0 o.code (omega (arith, s.code))), s.own, names line w o)

@@ -29,7 +29,7 @@ use Rattle.line.proofs.ReadRows.{reading_row}
 
 -- the same kind by other columns and another rule
 abbrev pub under : (kind : Kind) → List Column → (List Value → Rule kind.Answer) → Kind
-under kind columns rule = record { columns = columns; second = kind.second; own = kind.own; Answer = kind.Answer; rule = rule; shown = kind.shown; written = kind.written }
+under kind columns rule = record { columns = columns; second = kind.second; own = kind.own; Answer = kind.Answer; rule = rule; written = kind.written }
 
 module _ (after : Kind) (columns : List Column) (rule : List Value → Rule after.Answer) (wider : AllEased columns after.columns)
     (moves : (row : List Value) → OnlyOnesMove (rule row) (after.rule row)) (one : OneAnswer after) (line : List ℕ) where
@@ -72,7 +72,7 @@ module _ (after : Kind) (columns : List Column) (rule : List Value → Rule afte
           let still : fault_of after.columns line ≡ none = fault-stays columns after.columns wider line (λ k z. none-ne-some (Broken k) (sym e ∙ z)) ∙ e in
           let (o', follows, i, f) : RowAnswered after line n t = rw still at h in
           let (o, old_follows) = (moves row).had o' follows in
-          let text = answer_line (field_at 0 line) (before.shown line o) (own_columns before o) o.code in
+          let text = answer_line (field_at 0 line) (field_at 1 line) (own_columns before o) o.code in
           let due : RowAnswered before line o.code text = (o, rw said old_follows, refl, refl) in
           (o.code, text, subst (λ (found : Option Fault). AnsweredBy before line found o.code text) (sym e) due)
 

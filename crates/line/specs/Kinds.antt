@@ -15,14 +15,13 @@ use Rattle.text.specs.declared.columns.Fault.TheVariants.{TooLong, WrongCount, B
 use Rattle.text.specs.Columns.{Column, Value, header_of, fault_of, values, field_at}
 
 -- A kind of list: the columns of a row; the title of the answer's second column, and of its own columns, which stand between that and the code; what is answered
--- to a row, by which rule; what is shown in the second column, of the row's line or of what is answered; and what is written of it in the own columns.
+-- to a row, by which rule; and what is written of it in the own columns.
 pub record Kind : Type 1 where
   pub columns : List Column
   pub second : String
   pub own : List String
   pub Answer : Type 0
   pub rule : List Value → Rule Answer
-  pub shown : List ℕ → Outcome Answer → List ℕ
   pub written : Answer → List (List ℕ)
 
 abbrev pub line_end : List ℕ
@@ -48,15 +47,11 @@ blanks (title ∷ titles) = [] ∷ blanks titles
 abbrev pub own_columns : (kind : Kind) → Outcome kind.Answer → List (List ℕ)
 own_columns kind o = if eqb o.code 0 then kind.written o.answer else blanks kind.own
 
--- Most kinds repeat the row's second field.
-abbrev pub repeated : {A : Type 0} → List ℕ → Outcome A → List ℕ
-repeated line o = field_at 1 line
-
--- What is answered to a row: by the kind's rule, in a line that repeats the row's first field.
+-- What is answered to a row: by the kind's rule, in a line that repeats the row's first two fields.
 abbrev pub RowAnswered : Kind → List ℕ → ℕ → List ℕ → Type 0
 RowAnswered kind line number text =
     (o : Outcome kind.Answer) × Follows (kind.rule (values kind.columns line)) o × (number ≡ o.code)
-    × (text ≡ answer_line (field_at 0 line) (kind.shown line o) (own_columns kind o) o.code)
+    × (text ≡ answer_line (field_at 0 line) (field_at 1 line) (own_columns kind o) o.code)
 
 -- The refusal that a line's fault is.
 abbrev pub refusal_of : Fault → Refusal

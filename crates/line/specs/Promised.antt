@@ -4,13 +4,12 @@ use Rattle.std.proofs.Math.Option.{none}
 use Rattle.whole.specs.Choice.{if◌then◌else◌}
 use Rattle.whole.specs.Text.{ascii}
 use Rattle.quantity.specs.Refusals.{number_of}
-use Rattle.quantity.specs.Outcomes.{refused}
 use Rattle.quantity.specs.declared.refusal.Refusal.TheVariants.{ResistanceOutside, FieldBroken}
 use Rattle.text.specs.declared.columns.Fault.TheVariants.{Broken}
 use Rattle.text.specs.Fields.{fields}
 use Rattle.text.specs.Numbers.{is_number, value_of}
 use Rattle.text.specs.Decimal.{decimal}
-use Rattle.text.specs.Columns.{held, well_formed, first_broken, field_at, values}
+use Rattle.text.specs.Columns.{held, well_formed, first_broken, field_at}
 use Rattle.text.specs.Promised.{FirstToBreak}
 use Rattle.line.specs.declared.lent.LineAnswer.{LineAnswer}
 use Rattle.line.specs.Kinds.{Kind, input_header, output_header, answer_line, blanks, is_fault, fault_columns, nameless_line, RowAnswered, Answered}
@@ -30,23 +29,15 @@ OneAnswerInto kind = (line out out' out'' : List ℕ) (x y : LineAnswer) → Ans
 abbrev pub AnswersFit : Kind → ℕ → Type 0
 AnswersFit kind room = (line : List ℕ) (number : ℕ) (text : List ℕ) → Answered kind line number text → length text ≤ room
 
--- A row is answered by one of these numbers, any other line by that of its fault. A row that is not read through a register has a number of one digit. So 10 is
--- for a wrong header alone, and 11 for a short buffer.
-abbrev pub NumbersOfLines : Kind → (ℕ → Bool) → Type 0
-NumbersOfLines kind is_rows = (line : List ℕ) (number : ℕ) (text : List ℕ) → Answered kind line number text → (is_rows number || is_fault number) ≡ true
-
-abbrev pub one_digit : ℕ → Bool
-one_digit number = leb number 9
-
--- What is shown in the second column of a row that is refused.
-abbrev pub shown_refused : Kind → List ℕ → ℕ → List ℕ
-shown_refused kind line number = kind.shown line (refused (kind.rule (values kind.columns line)).zeros number)
+-- A row is answered by a number of one digit, any other line by that of its fault. So 10 is for a wrong header alone, and 11 for a short buffer.
+abbrev pub NumbersOfLines : Kind → Type 0
+NumbersOfLines kind = (line : List ℕ) (number : ℕ) (text : List ℕ) → Answered kind line number text → (leb number 9 || is_fault number) ≡ true
 
 -- 14 alone carries a number: any other refusal leaves the own columns empty, after the names of its row or after two question marks.
 abbrev pub OthersBlank : Kind → Type 0
 OthersBlank kind =
     (line : List ℕ) (number : ℕ) (text : List ℕ) → Answered kind line number text → (number ≡ 0 → ⊥) → (number ≡ number_of FieldBroken → ⊥)
-    → text ≡ (if is_fault number then answer_line (ascii "?") (ascii "?") (blanks kind.own) number else answer_line (field_at 0 line) (shown_refused kind line number) (blanks kind.own) number)
+    → text ≡ (if is_fault number then answer_line (ascii "?") (ascii "?") (blanks kind.own) number else answer_line (field_at 0 line) (field_at 1 line) (blanks kind.own) number)
 
 -- And the number that it carries is that of the first field from the left that breaks its rule, counted from 1.
 abbrev pub FieldNamed : Kind → Type 0
@@ -71,12 +62,12 @@ WereTens kind =
 abbrev pub HadAnswer : Kind → Type 0
 HadAnswer kind = (line : List ℕ) (number : ℕ) (text : List ℕ) → Answered kind line number text → (before : ℕ) × (text_before : List ℕ) × AnsweredBefore kind line before text_before
 
--- ---- all of these, of a kind of list whose rows have these numbers and whose answers so many bytes hold
-pub record LinesKept (kind : Kind) (is_rows : ℕ → Bool) (room : ℕ) : Type 0 where
+-- ---- all of these, of a kind of list whose answers so many bytes hold
+pub record LinesKept (kind : Kind) (room : ℕ) : Type 0 where
   pub one : OneAnswer kind
   pub one_into : OneAnswerInto kind
   pub fit : AnswersFit kind room
-  pub numbers : NumbersOfLines kind is_rows
+  pub numbers : NumbersOfLines kind
   pub others_blank : OthersBlank kind
   pub field-named : FieldNamed kind
   pub were_tens : WereTens kind

@@ -6,7 +6,7 @@ use Rattle.text.specs.Decimal.{signed_decimal}
 use Rattle.text.specs.Columns.{longest_id, longest_name}
 use Rattle.row.specs.Limits.{Limits, limits}
 use Rattle.row.specs.Readings.{columns_up_to, row_from}
-use Rattle.line.specs.Kinds.{Kind, repeated}
+use Rattle.line.specs.Kinds.{Kind}
 
 -- A row's resistances, r and r0, read by its certificate; t is the step that was read.
 abbrev pub readings_up_to : Limits → Kind
@@ -16,7 +16,6 @@ readings_up_to most = record {
   own = "t" ∷ [];
   Answer = LawAndStep;
   rule = λ row. let said = row_from 0 row in read_given_up_to most.largest said.certificate said.r.0 said.r0.0;
-  shown = repeated;
   written = λ a. signed_decimal a.step ∷ [];
 }
 

@@ -3,4 +3,4 @@ mod lent;
 mod readings;
 
 pub use lent::{LineAnswer, Placing, place, place_fault, place_refused};
-pub use readings::{answer_reading, place_reading, place_step};
+pub use readings::{answer_reading, place_reading};

@@ -38,8 +38,7 @@ fn put_read(names: &[u8], sign: &[u8], size: u64, out: &mut [u8]) -> Placing
     }
 }
 
-// The names of a row that was read, and its step.
-pub fn place_step(names: &[u8], step: Celsius, out: &mut [u8]) -> Placing
+fn put_step(names: &[u8], step: Celsius, out: &mut [u8]) -> Placing
     requires { length names.now ≤ longest_line }
     ensures { PlacedAs 0 (read_text names.now (signed_decimal step.0)) out.old out.new result }
 {
@@ -56,7 +55,7 @@ fn answer_row(line: &[u8], row: ReadingRow, out: &mut [u8]) -> Placing
 {
     let names = row.names;
     match reading::read(row.certificate, row.r, row.r0) {
-        ReadingAnswer::Read(reading) => place_step(&line[..names], reading.step, out),
+        ReadingAnswer::Read(reading) => put_step(&line[..names], reading.step, out),
         ReadingAnswer::Refused(why) => lent::place_refused(&line[..names], b",", why.number(), out),
     }
 }

@@ -15,8 +15,8 @@ over-long : (line : List ℕ) → most_held ≤ length line → length (capped l
 over-long line h =
     ap length (capped-over line h) ∙ length-append (take (most_held - 1) line) (last_byte line ∷ []) ∙ rw (length-take-le (most_held - 1) line (omega arith))
 
-pub capped-few : (line : List ℕ) → length (capped line) ≤ most_held
-capped-few line =
+pub capped_few : (line : List ℕ) → length (capped line) ≤ most_held
+capped_few line =
     elim (dec_le (length line) most_held) [
       | yes h ↦ rw (capped-under line h) h
       | no h ↦ omega (arith, over-long line (omega (arith, h)))
@@ -25,7 +25,7 @@ capped-few line =
 -- what is held then
 module _ {before : List ℕ} {count : ℕ} {s after : List ℕ} {r : ℕ} (a : Appended before count s after r) where
   pub appended-few : r ≤ most_held
-  appended-few = rw a.counted (capped-few (take count before ++ s))
+  appended-few = rw a.counted (capped_few (take count before ++ s))
 
   pub appended-held : take r after ≡ capped (take count before ++ s)
   appended-held = ap₂ take a.counted a.bytes ∙ take-append_seam (capped (take count before ++ s)) _
@@ -37,8 +37,8 @@ module _ (before s : List ℕ) (count : ℕ) (long : length before ≡ most_held
   begun-long : length (take count before) ≡ count
   begun-long = length-take-le count before (omega arith)
 
-  line_long : length line ≡ count + length s
-  line_long = length-append (take count before) s ∙ ap (λ (n : ℕ). n + length s) begun-long
+  line-long : length line ≡ count + length s
+  line-long = length-append (take count before) s ∙ ap (λ (n : ℕ). n + length s) begun-long
 
   -- What fills all but the last place: bytes of s, or none where those places are taken.
   pub fill-copied : count < most_held - 1 → most_held < count + length s
@@ -57,9 +57,9 @@ module _ (before s : List ℕ) (count : ℕ) (long : length before ≡ most_held
   -- s fits, or its last byte goes to the last place
   pub append-fits : (after : List ℕ) → count + length s ≤ most_held → after ≡ take count before ++ s ++ drop (count + length s) before → Appended before count s after (count + length s)
   append-fits after h e =
-      let whole : capped line ≡ line = capped-under line (omega (arith, line_long)) in
+      let whole : capped line ≡ line = capped-under line (omega (arith, line-long)) in
       record {
-        counted = sym (ap length whole ∙ line_long);
+        counted = sym (ap length whole ∙ line-long);
         bytes = e ∙ ap (λ (x : List ℕ). x ++ drop (count + length s) before) (sym whole);
       }
 
@@ -67,9 +67,9 @@ module _ (before s : List ℕ) (count : ℕ) (long : length before ≡ most_held
       → Appended before count s (set filled (most_held - 1) (get_or s (length s - 1) 0)) most_held
   append-over filled k e =
       let b = get_or s (length s - 1) 0 in
-      let i : length line - 1 ≡ length (take count before) + (length s - 1) = omega (arith, line_long, begun-long) in
+      let i : length line - 1 ≡ length (take count before) + (length s - 1) = omega (arith, line-long, begun-long) in
       let last : last_byte line ≡ b = ap (λ (j : ℕ). get_or line j 0) i ∙ get_or-append-add (take count before) s (length s - 1) 0 in
-      let enough : most_held ≤ length line = omega (arith, line_long) in
+      let enough : most_held ≤ length line = omega (arith, line-long) in
       let first = take (most_held - 1) line in
       let first-long : length first ≡ most_held - 1 = length-take-le (most_held - 1) line (omega arith) in
       record {

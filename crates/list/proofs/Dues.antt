@@ -17,7 +17,7 @@ use Rattle.list.specs.Kinds.{headed, wrong_header, room}
 use Rattle.list.specs.Feeding.{HeaderDue, Due, next, DueToAll, DueAtEnd}
 use Rattle.list.specs.Promised.{room_at}
 use Rattle.list.proofs.OfKinds.{kept_of, never_short}
-use Rattle.list.proofs.Headers.{header-short}
+use Rattle.list.proofs.Headers.{header_short}
 
 pub due-append : (g between later : Stage) (x y : List (List ℕ)) (ns ms t u : List ℕ) → DueToAll g x ns t between → DueToAll between y ms u later → DueToAll g (x ++ y) (ns ++ ms) (t ++ u) later
 due-append g between later [] y ns ms t u (i, e, f) k =
@@ -113,12 +113,12 @@ unfolding decimal
 wrong_small Launch n t = small (λ e. omega arith) (omega arith)
 wrong_small Bench n t = small (λ e. omega arith) (omega arith)
 
-header-small : (desk : Desk) (k : Option Kind) (n : ℕ) (t : List ℕ) → HeaderDue desk k n t → Small (room desk) n t
-header-small desk none n t h = wrong_small desk n t h
-header-small desk (some k) n t (i, j) = record { number = λ e. omega (arith, i, e); text = rw j (header-short desk k) }
+header_small : (desk : Desk) (k : Option Kind) (n : ℕ) (t : List ℕ) → HeaderDue desk k n t → Small (room desk) n t
+header_small desk none n t h = wrong_small desk n t h
+header_small desk (some k) n t (i, j) = record { number = λ e. omega (arith, i, e); text = rw j (header_short desk k) }
 
 pub due-small : (g : Stage) (line : List ℕ) (n : ℕ) (t : List ℕ) → Due g line n t → Small (room_at g) n t
-due-small (Header desk) line n t h = header-small desk (headed desk line) n t h
+due-small (Header desk) line n t h = header_small desk (headed desk line) n t h
 due-small (Rows k) line n t h = record { number = never_short k line n t h; text = (kept_of k).fit line n t h }
 due-small Stopped line n t h = small (λ e. omega arith) (omega arith) h
 

@@ -330,8 +330,8 @@ module _ (st : State) (chunk out : List ℕ) (i : ℕ) (held : List ℕ) (count 
         (λ k. record { ends = ends-line; number = short.number; text = short.text; due = short.due; no_room = omega (arith, short.no_room) })
 
     -- it is answered, and feeding goes on after it
-    pub held-at : (out' : List ℕ) (r : Reply) → Written st.stage (all_but_last (take count held)) out out' r → At st chunk out out' (after_held (i + 1) r)
-    held-at out' r w =
+    pub held_at : (out' : List ℕ) (r : Reply) → Written st.stage (all_but_last (take count held)) out out' r → At st chunk out out' (after_held (i + 1) r)
+    held_at out' r w =
         let line = line_of st ++ take i chunk in
         let due : Due st.stage (all_but_last line) w.number w.text =
         capped-front line st.stage w.number w.text (subst (λ (l : List ℕ). Due st.stage (all_but_last l) w.number w.text) line-is w.due) in

@@ -25,6 +25,6 @@ short_reply Resistances = omega arith
 short_reply Steps = omega arith
 short_reply Tolerances = omega arith
 
-pub header-short : (desk : Desk) (k : Kind) → length (output_header (kind_of k)) ≤ room desk
-header-short Launch k = omega (arith, short_reply k)
-header-short Bench k = omega (arith, short_reply k)
+pub header_short : (desk : Desk) (k : Kind) → length (output_header (kind_of k)) ≤ room desk
+header_short Launch k = omega (arith, short_reply k)
+header_short Bench k = omega (arith, short_reply k)

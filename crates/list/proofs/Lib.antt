@@ -1,4 +1,5 @@
 -- The proofs about a list.
+pub mod Same
 pub mod Nothing
 pub mod OfKinds
 pub mod Headers

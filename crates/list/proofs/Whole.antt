@@ -130,19 +130,19 @@ nothing_said [] line ns text last n later (i, e, f) k =
 nothing_said (row ∷ ls) line ns text last n later (m, first, more, rest, due, all, i, e) k =
     ap (λ (x : List ℕ). x ++ last) (e ∙ ap (λ (x : List ℕ). x ++ rest) due.1) ∙ nothing_said ls line more rest last n later all k
 
-header-said : (desk : Desk) (k : Option Kind) (text last : List ℕ) (ls : List (List ℕ)) (line first ns rest : List ℕ) (m n : ℕ) (later : Stage) → HeaderDue desk k m first
+header_said : (desk : Desk) (k : Option Kind) (text last : List ℕ) (ls : List (List ℕ)) (line first ns rest : List ℕ) (m n : ℕ) (later : Stage) → HeaderDue desk k m first
     → DueToAll (after_header k) ls ns rest later → DueAtEnd later line n last → text ≡ first ++ rest → HeaderAnswered desk k (ls ++ last_line line) (text ++ last)
-header-said desk none text last ls line first ns rest m n later due more k e =
+header_said desk none text last ls line first ns rest m n later due more k e =
     ap (λ (x : List ℕ). x ++ last) (e ∙ ap (λ (x : List ℕ). x ++ rest) due.1) ∙ append_assoc (wrong_header desk) rest last
     ∙ ap (λ (x : List ℕ). wrong_header desk ++ x) (nothing_said ls line ns rest last n later more k) ∙ append-nil (wrong_header desk)
-header-said desk (some kind) text last ls line first ns rest m n later due more k e =
+header_said desk (some kind) text last ls line first ns rest m n later due more k e =
     let start = output_header (kind_of kind) in
     (rest ++ last, rows_said kind ls line ns rest last n later more k, ap (λ (x : List ℕ). x ++ last) (e ∙ ap (λ (x : List ℕ). x ++ rest) due.1) ∙ append_assoc start rest last)
 
 -- a header that is the last line
-header-last : (desk : Desk) (k : Option Kind) (n : ℕ) (last : List ℕ) → HeaderDue desk k n last → HeaderAnswered desk k [] last
-header-last desk none n last (e, f) = f
-header-last desk (some kind) n last (e, f) = ([], refl, f ∙ sym (append-nil (output_header (kind_of kind))))
+header_last : (desk : Desk) (k : Option Kind) (n : ℕ) (last : List ℕ) → HeaderDue desk k n last → HeaderAnswered desk k [] last
+header_last desk none n last (e, f) = f
+header_last desk (some kind) n last (e, f) = ([], refl, f ∙ sym (append-nil (output_header (kind_of kind))))
 
 lines-said : (desk : Desk) (ls : List (List ℕ)) (line ns text last : List ℕ) (n : ℕ) (later : Stage) → DueToAll (Header desk) ls ns text later → DueAtEnd later line n last
     → LinesAnswered desk (ls ++ last_line line) (text ++ last)
@@ -150,8 +150,8 @@ lines-said desk [] line ns text last n later (i, e, f) k = rw e (ending line (su
   where
     ending : (line : List ℕ) → DueAtEnd (Header desk) line n last → LinesAnswered desk (last_line line) last
     ending [] (e, f) = f
-    ending (b ∷ s) h = header-last desk (headed desk (b ∷ s)) n last h
-lines-said desk (header ∷ ls) line ns text last n later (m, first, more, rest, due, all, i, e) k = header-said desk (headed desk header) text last ls line first more rest m n later due all k e
+    ending (b ∷ s) h = header_last desk (headed desk (b ∷ s)) n last h
+lines-said desk (header ∷ ls) line ns text last n later (m, first, more, rest, due, all, i, e) k = header_said desk (headed desk header) text last ls line first more rest m n later due all k e
 
 pub every_cutting : EveryCutting
 every_cutting desk st input output (count, stage) run =

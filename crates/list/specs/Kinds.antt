@@ -1,8 +1,7 @@
 -- The kinds of lists, which of them a desk takes, and by which header each is known.
-use Rattle.std.specs.Prelude.{List, [], ◌∷◌, ◌++◌, ℕ, get_or}
+use Rattle.std.specs.Prelude.{Bool, true, false, ◌&&◌, List, [], ◌∷◌, ◌++◌, ℕ, eqb, get_or}
 use Rattle.std.proofs.Math.Option.{Option, none, some}
 use Rattle.whole.specs.Choice.{if◌then◌else◌}
-use Rattle.text.specs.Same.{same}
 use Rattle.line.specs.Kinds as line
 use Rattle.line.specs.Kinds.{input_header, output_header, wrong_header_line}
 use Rattle.line.specs.Readings.{readings, reading_room}
@@ -32,6 +31,13 @@ taken Bench = kind.Records ∷ kind.Resistances ∷ kind.Steps ∷ kind.Toleranc
 -- The kind that answers a wrong header: the first of them.
 abbrev pub first_kind : Desk → Kind
 first_kind desk = get_or (taken desk) 0 kind.Readings
+
+-- The same bytes.
+abbrev pub same : List ℕ → List ℕ → Bool
+same [] [] = true
+same [] (b ∷ t) = false
+same (a ∷ s) [] = false
+same (a ∷ s) (b ∷ t) = eqb a b && same s t
 
 -- The kind of list whose header a line is, if any.
 abbrev pub kind_headed : List Kind → List ℕ → Option Kind

@@ -2,7 +2,7 @@
 ghost use Rattle.std.specs.Prelude.{◌≡◌};
 ghost use Rattle.list.specs.Kinds.{headed, stated_kind};
 
-use text::same_bytes;
+use crate::header::same_bytes;
 
 // A list of readings, of records of ratios or of resistances, of steps to be taken forward, or of tolerance tests.
 #[derive(Drop)]

@@ -49,14 +49,6 @@ module _ {A : Type 0} (rule : Rule A) where
       by true h = absurd (eqb-false n 0 z (sym e ∙ h.0))
       by false h = sym (ap (λ (o : Outcome A). o.code) h) ∙ e
 
-  -- and zeros in the answer's place
-  pub refusal_is : (o : Outcome A) → (o.code ≡ 0 → ⊥) → Follows rule o → o ≡ refused rule.zeros o.code
-  refusal_is o z = by (eqb number 0)
-    where
-      by : (t : Bool) → (if t then (o.code ≡ 0) × rule.Answer o.answer else o ≡ refused rule.zeros number) → o ≡ refused rule.zeros o.code
-      by true h = absurd (z h.0)
-      by false h = h ∙ ap (refused rule.zeros) (sym (ap (λ (o : Outcome A). o.code) h))
-
   -- the code is the number given
   pub code-is-given : (o : Outcome A) → Follows rule o → o.code ≡ number
   code-is-given o = by (eqb number 0) refl

@@ -5,13 +5,11 @@ pub mod JoinedEntries
 pub mod TableEntries
 -- The entries of an accepted list come into a table one after another.
 pub mod PlacedEntries
--- What an accepted import, withdrawal and move have passed.
+-- What an accepted import and an accepted withdrawal have passed.
 pub mod PassedTests
 -- Where a number stands, as a search through the places finds it.
 pub mod NumberPlace
 -- What the tests gather place by place is what their definitions say.
 pub mod GatheredTests
--- The entries of a table in a larger one, and free places after them.
-pub mod MovedEntries
 -- From what the tests found to the refusal and to the table that is left.
 pub mod RefusalFound

@@ -7,8 +7,6 @@ pub mod ImportTwice
 pub mod ImportOrders
 -- What a withdrawal leaves: one mark raised.
 pub mod WithdrawnTable
--- What a move leaves: the same entries at the same places.
-pub mod MovedTable
 -- A refusal changes nothing, and a table that is not bad does not become so.
 pub mod StaysGood
 -- A mark never falls, and a serial never falls.
@@ -29,5 +27,3 @@ pub mod Leaves
 pub mod OneOutcome
 -- Imports of a few entries, computed.
 pub mod ComputedImports
--- Moves of a few entries, computed.
-pub mod ComputedMoves

@@ -2,6 +2,5 @@
 pub mod Table
 pub mod Import
 pub mod Withdrawal
-pub mod Moving
 pub mod Reading
 pub mod Promised

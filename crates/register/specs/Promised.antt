@@ -1,8 +1,8 @@
--- What is promised of the register besides its answers. The call `import` ensures `ImportedAs`, `withdraw` ensures `WithdrawnAs`, `lookup` ensures `LookedUp` and
--- `read` ensures `ReadThrough`. By `ImportLeaves` and `WithdrawalLeaves`, what is said here of `import_refusal`, `imported`, `withdrawal_refusal` and `withdrawn` is
--- said of every use of the first two.
+-- What is promised of the register besides its answers. The call `import` ensures `ImportedAs`, `withdraw` ensures `WithdrawnAs` and `read` ensures
+-- `ReadThrough`. By `ImportLeaves` and `WithdrawalLeaves`, what is said here of `import_refusal`, `imported`, `withdrawal_refusal` and `withdrawn` is said of every
+-- use of the first two.
 use Rattle.std.specs.Prelude.{◌≡◌, true, false, List, [], ◌∷◌, ℕ, ◌<◌, ◌≤◌, eqb, length, get_or, ◌≤ℤ◌}
-use Rattle.std.proofs.Math.Option.{none, some}
+use Rattle.std.proofs.Math.Option.{some}
 use Rattle.quantity.specs.Quantities.{ratio_of}
 use Rattle.quantity.specs.Outcomes.{Outcome, Follows}
 use Rattle.quantity.specs.Promised.{Widens}
@@ -16,15 +16,12 @@ use Rattle.reading.specs.Promised.{Close}
 use Rattle.entry.specs.declared.entry.Entry.{Entry}
 use Rattle.entry.specs.declared.entry.Serial.{Serial}
 use Rattle.examination.specs.declared.answering.Change.{Change}
-use Rattle.examination.specs.declared.answering.Live.{Live}
-use Rattle.examination.specs.declared.answering.LookupAnswer.{LookupAnswer}
 use Rattle.entry.specs.Entry.{fault, is_free, is_live, free, joined, raised}
-use Rattle.examination.specs.Answering.{stated as changed, live_of, read_found}
+use Rattle.examination.specs.Answering.{stated as changed}
 use Rattle.register.specs.Table.{entry_of, bad_table}
 use Rattle.register.specs.Import.{short, import_refusal, imported, ImportedAs}
-use Rattle.register.specs.Moving.{AllFree, move_refusal, moved, MovedAs}
 use Rattle.register.specs.Withdrawal.{withdrawal_refusal, withdrawn, WithdrawnAs}
-use Rattle.register.specs.Reading.{lookup_rule, LookedUp, read_through_up_to, ReadThrough}
+use Rattle.register.specs.Reading.{read_through_up_to, ReadThrough}
 
 -- A number names a thermometer where it is not 0.
 abbrev pub Names : ℕ → Type 0
@@ -43,29 +40,18 @@ WithdrawalLeaves =
     (table : List Entry) (n : ℕ) (serial : Serial) (answer : Change) (left : List Entry) → WithdrawnAs table n serial answer left
     → (changed answer ≡ withdrawal_refusal table n) × (left ≡ withdrawn table n serial)
 
--- The call `move_over` ensures `MovedAs`. Its number is that of its tests. Accepted, it leaves `moved`, which is the register from then on. Refused, it
--- leaves the larger table as it was, and the old one stays the register.
-abbrev pub MoveLeaves : Type 0
-MoveLeaves =
-    (larger old : List Entry) (answer : Change) (left : List Entry) → MovedAs larger old answer left
-    → (changed answer ≡ move_refusal larger old)
-    × (move_refusal larger old ≡ 0 → left ≡ moved larger old)
-    × (eqb (move_refusal larger old) 0 ≡ false → left ≡ larger)
-
 -- ---- refusals
--- An import, a withdrawal or a move that is refused leaves the register as it was.
+-- An import or a withdrawal that is refused leaves the table as it was.
 abbrev pub RefusedUnchanged : Type 0
 RefusedUnchanged =
     ((table list : List Entry) → eqb (import_refusal table list) 0 ≡ false → imported table list ≡ table)
     × ((table : List Entry) (n : ℕ) (serial : Serial) → eqb (withdrawal_refusal table n) 0 ≡ false → withdrawn table n serial ≡ table)
-    × ((larger old : List Entry) → eqb (move_refusal larger old) 0 ≡ false → moved larger old ≡ old)
 
 -- A table that is not bad does not become so.
 abbrev pub StaysGood : Type 0
 StaysGood =
     ((table list : List Entry) → bad_table table ≡ false → bad_table (imported table list) ≡ false)
     × ((table : List Entry) (n : ℕ) (serial : Serial) → bad_table table ≡ false → bad_table (withdrawn table n serial) ≡ false)
-    × ((larger old : List Entry) → bad_table old ≡ false → bad_table (moved larger old) ≡ false)
 
 -- ---- places
 -- There are as many places, and what is not free at a place keeps its number there.
@@ -78,18 +64,6 @@ abbrev pub KeepsPlaces : Type 0
 KeepsPlaces =
     ((table list : List Entry) → Keeps table (imported table list))
     × ((table : List Entry) (n : ℕ) (serial : Serial) → Keeps table (withdrawn table n serial))
-
--- ---- moves
--- A move keeps of each thermometer the entry that the old table had, and each place of the old table has the same entry as before.
-abbrev pub MoveKeeps : Type 0
-MoveKeeps =
-    (larger old : List Entry)
-    → ((n : ℕ) → Names n → entry_of (moved larger old) n ≡ entry_of old n)
-    × ((place : ℕ) → place < length old → get_or (moved larger old) place free ≡ get_or old place free)
-
--- A table that is not bad moves into one of free places that has as many.
-abbrev pub MoveAccepted : Type 0
-MoveAccepted = (larger old : List Entry) → bad_table old ≡ false → length old ≤ length larger → AllFree larger → move_refusal larger old ≡ 0
 
 -- ---- imports
 -- An accepted import leaves of each thermometer what the table had of it joined with what the list has of it; one that the list does not name keeps its entry.
@@ -120,19 +94,6 @@ WithdrawalRaises =
     → (entry_of (withdrawn table n serial) n ≡ raised (entry_of table n) serial)
     × ((m : ℕ) → eqb n m ≡ false → entry_of (withdrawn table n serial) m ≡ entry_of table m)
 
--- ---- looking up
--- What is found is the live certificate that is held, with its own serial.
-abbrev pub FindsLive : Type 0
-FindsLive =
-    (table : List Entry) (n : ℕ) (looked : Outcome Live) → Follows (lookup_rule table n) looked → looked.code ≡ 0
-    → let held = entry_of table n in (is_live held ≡ true) × (looked.answer ≡ live_of held)
-
--- A reading is looking up, and then reading by what was found.
-abbrev pub LookThenRead : Type 0
-LookThenRead =
-    (table : List Entry) (n r r0 : ℕ) (looked : Outcome Live) (o : Outcome LawAndStep)
-    → Follows (lookup_rule table n) looked → Follows (read_found looked r r0) o → ReadThrough table n r r0 o
-
 -- ---- readings
 -- An answered reading is what a live certificate reads by its own law.
 abbrev pub ReadsLive : Type 0
@@ -144,14 +105,7 @@ ReadsLive =
 abbrev pub HeldGood : Type 0
 HeldGood = (table : List Entry) (n : ℕ) → bad_table table ≡ false → is_free (entry_of table n) ≡ false → fault (entry_of table n).certificate ≡ 0
 
--- To the person on the launch: no reading through the register is ever by the curve, whatever was imported. It is by a subrange of the scale, or it is refused
--- and names no law.
-abbrev pub NeverByCurve : Type 0
-NeverByCurve =
-    (table : List Entry) (n r r0 : ℕ) (o : Outcome LawAndStep) → ReadThrough table n r r0 o
-    → (o.code ≡ 0 → (s : Subrange) × (o.answer.law ≡ some (Scale s))) × ((o.code ≡ 0 → ⊥) → o.answer.law ≡ none)
-
--- And no reading through the register is refused by 3 or 7.
+-- So no reading through the register is refused by 3 or 7.
 abbrev pub ThroughGood : Type 0
 ThroughGood = (table : List Entry) (n r r0 : ℕ) (o : Outcome LawAndStep) → ReadThrough table n r r0 o → (eqb o.code 3 ≡ false) × (eqb o.code 7 ≡ false)
 
@@ -177,17 +131,15 @@ abbrev pub ThroughWidens : Type 0
 ThroughWidens = (table : List Entry) (n r r0 : ℕ) → Widens (λ largest. read_through_up_to largest table n r r0)
 
 -- ---- what is withdrawn stays withdrawn
--- What changes a register: imports, withdrawals, moves to a larger table that was lent.
+-- What changes a register: imports, withdrawals.
 pub data Act : Type 0 where
   Import : List Entry → Act
   Withdraw : ℕ → Serial → Act
-  Move : List Entry → Act
 
 -- The table after one act, accepted or refused, and after any number of them.
 abbrev pub after : List Entry → Act → List Entry
 after table (Import list) = imported table list
 after table (Withdraw n serial) = withdrawn table n serial
-after table (Move larger) = moved larger table
 
 abbrev pub after_all : List Entry → List Act → List Entry
 after_all table [] = table
@@ -200,7 +152,7 @@ mark_of table n = (entry_of table n).mark.0
 abbrev pub serial_of : List Entry → ℕ → ℕ
 serial_of table n = (entry_of table n).serial.0
 
--- A mark never falls, whatever is imported, withdrawn and moved.
+-- A mark never falls, whatever is imported and withdrawn.
 abbrev pub MarkNeverFalls : Type 0
 MarkNeverFalls = (table : List Entry) (acts : List Act) (n : ℕ) → Names n → mark_of table n ≤ mark_of (after_all table acts) n
 
@@ -240,21 +192,16 @@ abbrev pub CameTogether : Type 0
 CameTogether =
     (table : List Entry) (acts : List Act) (n : ℕ) → is_free (entry_of (after_all table acts) n) ≡ false → CameIn table (entry_of (after_all table acts) n) table acts
 
--- A newer certificate takes the old one's place: where an import is accepted that has, for a thermometer, a serial above the one that is held and above both
--- marks, a reading then is by that certificate.
+-- A newer certificate takes the old one's place. Good, above the serial that is held and above both marks, and with a place for it, it is accepted, and a reading
+-- then is by it.
 abbrev pub NewerServes : Type 0
 NewerServes =
-    (table list : List Entry) (n : ℕ) → Names n → import_refusal table list ≡ 0
-    → serial_of table n < serial_of list n → mark_of table n < serial_of list n → mark_of list n < serial_of list n
-    → (r r0 : ℕ) (o : Outcome LawAndStep) → ReadThrough (imported table list) n r r0 o → Follows (read_given (entry_of list n).certificate r r0) o
-
--- Alone in its list it is accepted, where it is good and there is a place for it.
-abbrev pub NewerAccepted : Type 0
-NewerAccepted =
     (table : List Entry) (e : Entry) → bad_table table ≡ false → Names e.number.0 → fault e.certificate ≡ 0 → short table (e ∷ []) ≡ false
-    → serial_of table e.number.0 < e.serial.0 → import_refusal table (e ∷ []) ≡ 0
+    → serial_of table e.number.0 < e.serial.0 → mark_of table e.number.0 < e.serial.0 → e.mark.0 < e.serial.0
+    → (import_refusal table (e ∷ []) ≡ 0)
+    × ((r r0 : ℕ) (o : Outcome LawAndStep) → ReadThrough (imported table (e ∷ [])) e.number.0 r r0 o → Follows (read_given e.certificate r r0) o)
 
--- And the old one does not come back: a serial never falls, whatever is imported, withdrawn and moved.
+-- And the old one does not come back: a serial never falls, whatever is imported and withdrawn.
 abbrev pub SerialNeverFalls : Type 0
 SerialNeverFalls = (table : List Entry) (acts : List Act) (n : ℕ) → Names n → serial_of table n ≤ serial_of (after_all table acts) n
 
@@ -265,19 +212,10 @@ OneImport =
     (table list : List Entry) (x y : Change) (left other : List Entry)
     → ImportedAs table list x left → ImportedAs table list y other → (x ≡ y) × (left ≡ other)
 
-abbrev pub OneMove : Type 0
-OneMove =
-    (larger old : List Entry) (x y : Change) (left other : List Entry)
-    → MovedAs larger old x left → MovedAs larger old y other → (x ≡ y) × (left ≡ other)
-
 abbrev pub OneWithdrawal : Type 0
 OneWithdrawal =
     (table : List Entry) (n : ℕ) (serial : Serial) (x y : Change) (left other : List Entry)
     → WithdrawnAs table n serial x left → WithdrawnAs table n serial y other → (x ≡ y) × (left ≡ other)
-
-abbrev pub OneLookup : Type 0
-OneLookup =
-    (table : List Entry) (n : ℕ) (x y : LookupAnswer) (left other : List Entry) → LookedUp table n x left → LookedUp table n y other → (x ≡ y) × (left ≡ other)
 
 abbrev pub OneReading : Type 0
 OneReading = (table : List Entry) (n r r0 : ℕ) (x y : ReadingAnswer) → ReadThrough table n r r0 (read_as x) → ReadThrough table n r r0 (read_as y) → x ≡ y

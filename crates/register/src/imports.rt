@@ -2,7 +2,7 @@
 ghost use Rattle.std.specs.Prelude.{◌≡◌};
 ghost use Rattle.register.specs.Import.{Tested, placed_all, ImportedAs};
 
-use crate::table::{examine, find, held_of, put};
+use crate::table::{examine, find, lookup, put};
 use entry::{Entry, joined};
 use examination::{Change, Noted, accepted, import_answer, note, nothing_noted};
 
@@ -15,7 +15,7 @@ pub fn check(table: &[Entry], list: &[Entry], places: u64) -> Noted
     while k < list.len() {
         let e = list[k];
         let first = find(list, e.number.0);
-        let held = held_of(table, e.number.0);
+        let held = lookup(table, e.number.0);
         s = note(s, e, k, first, held);
         k += 1;
     }
@@ -29,7 +29,7 @@ pub fn place_all(table: &mut [Entry], list: &[Entry])
     let mut k = 0;
     while k < list.len() {
         let e = list[k];
-        let held = held_of(table, e.number.0);
+        let held = lookup(table, e.number.0);
         put(table, held.number.0, joined(held, e));
         k += 1;
     }

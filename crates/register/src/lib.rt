@@ -1,15 +1,11 @@
 // The register: certificates in a lent table of entries, one for each thermometer. A withdrawn certificate stays withdrawn, whatever is imported.
 mod arrays;
 mod imports;
-mod lookups;
-mod moves;
 mod readings;
 mod table;
 mod withdrawals;
 
 pub use arrays::{After, import_array, read_array, withdraw_array};
 pub use imports::import;
-pub use lookups::lookup;
-pub use moves::move_over;
 pub use readings::read;
 pub use withdrawals::withdraw;

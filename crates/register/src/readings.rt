@@ -2,7 +2,7 @@
 ghost use Rattle.law.specs.Answers.{stated};
 ghost use Rattle.register.specs.Reading.{ReadThrough};
 
-use crate::table::{examine, held_of};
+use crate::table::{examine, lookup};
 use entry::{Entry, Thermometer};
 use examination::reading_answer;
 use law::ReadingAnswer;
@@ -13,6 +13,6 @@ pub fn read(table: &[Entry], number: Thermometer, r: Nanoohm, r0: Nanoohm) -> Re
     ensures { ReadThrough table.now number.0 r.0 r0.0 (stated result) }
 {
     let s = examine(table);
-    let held = held_of(table, number.0);
+    let held = lookup(table, number.0);
     reading_answer(s, held, r, r0)
 }

@@ -21,7 +21,7 @@ pub fn find(entries: &[Entry], number: u64) -> usize
 }
 
 // What the table has of a number, or a free place.
-pub fn held_of(table: &[Entry], number: u64) -> Entry
+pub fn lookup(table: &[Entry], number: u64) -> Entry
     ensures { result ≡ entry_of table.now number }
 {
     let i = find(table, number);

@@ -1,7 +1,7 @@
 // A withdrawal: the certificates of a thermometer are withdrawn up to a serial, for good.
 ghost use Rattle.register.specs.Withdrawal.{WithdrawnAs};
 
-use crate::table::{examine, held_of, put};
+use crate::table::{examine, lookup, put};
 use entry::{Entry, Serial, Thermometer, raised};
 use examination::{Change, accepted, withdrawal_answer};
 
@@ -10,7 +10,7 @@ pub fn withdraw(table: &mut [Entry], number: Thermometer, serial: Serial) -> Cha
     ensures { WithdrawnAs table.old number.0 serial result table.new }
 {
     let s = examine(table);
-    let held = held_of(table, number.0);
+    let held = lookup(table, number.0);
     let change = withdrawal_answer(s, held);
     if accepted(change) {
         put(table, number.0, raised(held, serial));

@@ -23,10 +23,6 @@ module _ (columns : List Column) (line : List ℕ) where
 
 module _ {Row : Type 0} (columns : List Column) (row_from : ℕ → List Value → Row) (line : List ℕ) {end : ℕ} {vs : List Value} (s : Scan line columns 0 end vs) (short : length line ≤ longest_line) where
   -- one whose last field ends where the line does
-  pub read-row-by : end ≡ length line + 1 → (measure : List ℕ → ℕ) (names : ℕ) → (well_formed columns line ≡ true → names ≡ measure line)
-      → a_row (row_from names vs) ≡ parsed_by columns (λ (line : List ℕ). row_from (measure line) (values columns line)) line
-  read-row-by e measure names n = rw (no_fault columns line (scan-row line s short e), n (scan-row line s short e), scan-values line s short e)
-
   pub read-row : end ≡ length line + 1 → (names : ℕ) → (well_formed columns line ≡ true → names ≡ names_length line)
       → a_row (row_from names vs) ≡ parsed_by columns (λ (line : List ℕ). row_from (names_length line) (values columns line)) line
-  read-row e = read-row-by e names_length
+  read-row e names n = rw (no_fault columns line (scan-row line s short e), n (scan-row line s short e), scan-values line s short e)

@@ -14,9 +14,6 @@ use Rattle.row.specs.declared.records.RecordParsed.TheVariants as rec
 use Rattle.row.specs.declared.resistances.ResistancesRow.{ResistancesRow}
 use Rattle.row.specs.declared.resistances.ResistancesParsed.{ResistancesParsed}
 use Rattle.row.specs.declared.resistances.ResistancesParsed.TheVariants as resistance
-use Rattle.row.specs.declared.rounds.RoundRow.{RoundRow}
-use Rattle.row.specs.declared.rounds.RoundParsed.{RoundParsed}
-use Rattle.row.specs.declared.rounds.RoundParsed.TheVariants as round
 use Rattle.row.specs.declared.tolerances.ToleranceRow.{ToleranceRow}
 use Rattle.row.specs.declared.tolerances.ToleranceParsed.{ToleranceParsed}
 use Rattle.row.specs.declared.tolerances.ToleranceParsed.TheVariants as tolerance
@@ -25,7 +22,6 @@ use Rattle.row.specs.Readings as readings
 use Rattle.row.specs.Forward as forwards
 use Rattle.row.specs.Records as records
 use Rattle.row.specs.Resistances as resistances
-use Rattle.row.specs.Rounds as rounds
 use Rattle.row.specs.Tolerances as tolerances
 
 -- cases that can be told from what they state
@@ -76,17 +72,6 @@ one-resistances line = one_case resistances.stated back is (resistances.parsed_a
     is : (x : ResistancesParsed) → back (resistances.stated x) ≡ x
     is (resistance.Row row) = refl
     is (resistance.NoRow fault) = refl
-
-pub one_round : (line : List ℕ) (x y : RoundParsed) → rounds.stated x ≡ rounds.parsed_as line → rounds.stated y ≡ rounds.parsed_as line → x ≡ y
-one_round line = one_case rounds.stated back is (rounds.parsed_as line)
-  where
-    back : Parsing RoundRow → RoundParsed
-    back (no_row fault) = round.NoRow fault
-    back (a_row row) = round.Row row
-
-    is : (x : RoundParsed) → back (rounds.stated x) ≡ x
-    is (round.Row row) = refl
-    is (round.NoRow fault) = refl
 
 pub one_tolerance : (line : List ℕ) (x y : ToleranceParsed) → tolerances.stated x ≡ tolerances.parsed_as line → tolerances.stated y ≡ tolerances.parsed_as line → x ≡ y
 one_tolerance line = one_case tolerances.stated back is (tolerances.parsed_as line)

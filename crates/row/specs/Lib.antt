@@ -3,7 +3,6 @@ pub mod Parsing
 pub mod Places
 pub mod Limits
 pub mod Readings
-pub mod Rounds
 pub mod Forward
 pub mod Records
 pub mod Resistances

@@ -1,4 +1,4 @@
--- The limits of a resistance: how large it may be, and how many digits it may have in a list. How many a thermometer's number may have.
+-- The limits of a resistance: how large it may be, and how many digits it may have in a list.
 use Rattle.std.specs.Prelude.{ℕ, ◌^◌, ◌≤◌}
 use Rattle.quantity.specs.Quantities.{largest_resistance}
 
@@ -9,10 +9,6 @@ pub record Limits : Type 0 where
 
 abbrev pub limits : Limits
 limits = record { largest = largest_resistance; digits = 14 }
-
--- The most digits of a thermometer's number, a serial and a mark in a file: a spreadsheet keeps so many of a whole number.
-abbrev pub number_digits : ℕ
-number_digits = 15
 
 -- Those before request 9.
 abbrev pub limits_before : Limits

@@ -4,17 +4,14 @@ mod forward;
 mod readings;
 mod records;
 mod resistances;
-mod rounds;
 mod tolerances;
 
-pub use digits::{DIGITS, NUMBER_DIGITS};
 pub use forward::{FORWARD_COLUMNS, ForwardParsed, ForwardRow, forward_columns, parse_forward};
 pub use readings::{READING_COLUMNS, ReadingParsed, ReadingRow, parse_reading, reading_columns};
 pub use records::{RECORD_COLUMNS, RecordParsed, RecordRow, parse_record, record_columns};
 pub use resistances::{
     RESISTANCES_COLUMNS, ResistancesParsed, ResistancesRow, parse_resistances, resistances_columns,
 };
-pub use rounds::{Asked, ROUND_COLUMNS, RoundParsed, RoundRow, parse_round, round_columns};
 pub use tolerances::{
     TOLERANCE_COLUMNS, ToleranceParsed, ToleranceRow, parse_tolerance, tolerance_columns,
 };

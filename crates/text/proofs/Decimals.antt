@@ -1,17 +1,19 @@
 -- Decimal digits, one more or one less at a time.
 use mathlib.Core.Path.{◌≡◌, refl, sym, ap, ◌∙◌}
 use mathlib.Core.Bool.{Bool, true, false}
-use mathlib.Core.List.{List, [], ◌∷◌, ◌++◌}
+use mathlib.Core.List.{List, [], ◌∷◌, ◌++◌, append_assoc, append-nil}
 use native.Mathlib.Decide.{dec_le}
 use native.Mathlib.Nat.{pow-suc, one-le-pow}
 use native.Mathlib.Omega.{arith}
-use Prim.Native.Nat.{ℕ, zero, suc, ◌+◌, ◌*◌, ◌/◌, ◌%◌, ◌^◌, ◌≤◌, ◌<◌}
+use Prim.Native.Nat.{ℕ, zero, suc, ◌+◌, ◌-◌, ◌*◌, ◌/◌, ◌%◌, ◌^◌, ◌≤◌, ◌<◌}
 use Prim.Native.Char.{code}
 use lib.Dec.{ltb, lit<}
-use lib.ListN.{length, length-append}
+use lib.ListN.{length, take, drop, set, length-append, length-set, take-append-drop}
 use borrow.Author.Tests.{lt-ltb, le-ltb, ltb-false}
 use Rattle.whole.specs.Choice.{if◌then◌else◌}
 use Rattle.text.specs.Decimal.{digits_in, decimal}
+use Rattle.text.specs.Writing.{over}
+use Rattle.text.proofs.Overs.{over-before}
 
 -- enough is enough
 digits_same : (most most' n : ℕ) → n < most → n < most' → digits_in most n ≡ digits_in most' n
@@ -70,12 +72,56 @@ some_digit n =
       | no h ↦ omega (arith, one-long n (omega (arith, h)))
     ]
 
+-- Digits are written from the last to the first: those of `rest` are still to be written, and a tail stands after them.
+pub record Writing (out₀ : List ℕ) (at n : ℕ) (out : List ℕ) (rest i : ℕ) : Type 0 where
+  pub tail : List ℕ
+  pub digits : decimal n ≡ decimal rest ++ tail
+  pub offset : i ≡ at + length (decimal rest)
+  pub bytes : out ≡ take i out₀ ++ tail ++ drop (at + length (decimal n)) out₀
+  pub same : length out ≡ length out₀
+  pub within : i ≤ length out₀
+
+module _ {out₀ : List ℕ} {at n : ℕ} {out : List ℕ} {rest i : ℕ} (w : Writing out₀ at n out rest i) where
+  pub write-more : 10 ≤ rest → Writing out₀ at n (set out (i - 1) (code "0" + rest % 10)) (rest / 10) (i - 1)
+  write-more h =
+      let l = more_long rest h in
+      let i-is : i ≡ suc (i - 1) = omega (arith, w.offset, some_digit rest) in
+      record {
+        tail = (code "0" + rest % 10) ∷ w.tail;
+        digits = w.digits ∙ ap (λ (s : List ℕ). s ++ w.tail) (decimal_more rest h) ∙ append_assoc (decimal (rest / 10)) ((code "0" + rest % 10) ∷ []) w.tail;
+        offset = omega (arith, w.offset, l);
+        bytes =
+            ap (λ (s : List ℕ). set s (i - 1) (code "0" + rest % 10)) (w.bytes ∙ ap (λ (k : ℕ). take k out₀ ++ w.tail ++ drop (at + length (decimal n)) out₀) i-is)
+            ∙ over-before out₀ w.tail (drop (at + length (decimal n)) out₀) (i - 1) (code "0" + rest % 10) (omega (arith, w.within, i-is));
+        same = length-set out (i - 1) (code "0" + rest % 10) ∙ w.same;
+        within = omega (arith, w.within);
+      }
+
+  pub write-last : rest < 10 → set out at (code "0" + rest) ≡ over out₀ at (decimal n)
+  write-last h =
+      let i-is : i ≡ suc at = omega (arith, w.offset, one-long rest h) in
+      let n-is : decimal n ≡ (code "0" + rest) ∷ w.tail = w.digits ∙ ap (λ (s : List ℕ). s ++ w.tail) (decimal-one rest h) in
+      ap (λ (s : List ℕ). set s at (code "0" + rest)) (w.bytes ∙ ap (λ (k : ℕ). take k out₀ ++ w.tail ++ drop (at + length (decimal n)) out₀) i-is)
+      ∙ over-before out₀ w.tail (drop (at + length (decimal n)) out₀) at (code "0" + rest) (omega (arith, w.within, i-is))
+      ∙ ap (λ (s : List ℕ). take at out₀ ++ s ++ drop (at + length (decimal n)) out₀) (sym n-is)
+
+pub write_start : (out : List ℕ) (at n : ℕ) → at + length (decimal n) ≤ length out → Writing out at n out n (at + length (decimal n))
+write_start out at n h = record {
+  tail = [];
+  digits = sym (append-nil (decimal n));
+  offset = refl;
+  bytes =
+      sym (ap (λ (s : List ℕ). s ++ drop (at + length (decimal n)) out) (append-nil (take (at + length (decimal n)) out)) ∙ take-append-drop (at + length (decimal n)) out);
+  same = refl;
+  within = h;
+}
+
 -- a number below a power of ten has no more digits than that
-pub few-digits : (k n : ℕ) → n < 10 ^ suc k → length (decimal n) ≤ suc k
-few-digits zero n h = omega (arith, one-long n h)
-few-digits (suc k) n h =
+pub few_digits : (k n : ℕ) → n < 10 ^ suc k → length (decimal n) ≤ suc k
+few_digits zero n h = omega (arith, one-long n h)
+few_digits (suc k) n h =
     elim (dec_le 10 n) [
-      | yes m ↦ omega (arith, more_long n m, few-digits k (n / 10) (less (rw (sym (pow-suc 10 (suc k))) h)))
+      | yes m ↦ omega (arith, more_long n m, few_digits k (n / 10) (less (rw (sym (pow-suc 10 (suc k))) h)))
       | no m ↦ omega (arith, one-long n (omega (arith, m)))
     ]
   where
@@ -83,4 +129,4 @@ few-digits (suc k) n h =
     less h = omega arith
 
 pub word-digits : (n : ℕ) → n < 2 ^ 64 → length (decimal n) ≤ 20
-word-digits n h = few-digits 19 n (omega (arith, h))
+word-digits n h = few_digits 19 n (omega (arith, h))

@@ -15,7 +15,7 @@ use Rattle.whole.specs.Text.{after, name_of}
 use Rattle.text.specs.Fields.{digit, small}
 use Rattle.text.specs.Numbers.{digits_after, value_of}
 
-pub after_more : (n : ℕ) (x : List ℕ) (b : ℕ) → after n (x ++ (b ∷ [])) ≡ after n x * 256 + b
+after_more : (n : ℕ) (x : List ℕ) (b : ℕ) → after n (x ++ (b ∷ [])) ≡ after n x * 256 + b
 after_more n [] b = refl
 after_more n (a ∷ x) b = after_more (n * 256 + a) x b
 
@@ -32,9 +32,6 @@ module _ (s : List ℕ) (i : ℕ) (h : i < length s) where
 
 pub small_bounds : (b : ℕ) → small b ≡ true → b ≤ 122
 small_bounds b e = leb-true b (code "z") (and_true (leb (code "a") b) (leb b (code "z")) e).1
-
-pub small_least : (b : ℕ) → small b ≡ true → 97 ≤ b
-small_least b e = leb-true (code "a") b (and_true (leb (code "a") b) (leb b (code "z")) e).0
 
 pub digit_bounds : (b : ℕ) → digit b ≡ true → (48 ≤ b) × (b ≤ 57)
 digit_bounds b e =

@@ -5,17 +5,12 @@ pub mod Joined
 pub mod Offsets
 pub mod Spans
 pub mod Numbers
-pub mod Backward
 pub mod Decimals
-pub mod Spellings
 pub mod Round
 pub mod Overs
-pub mod Words
 pub mod Rows
 pub mod Faults
 pub mod Widening
 pub mod Names
 pub mod Longest
 pub mod Adding
-pub mod Same
-pub mod Written

@@ -1,21 +1,20 @@
 -- How long a line is whose fields keep their rules.
 use mathlib.Core.Path.{◌≡◌, refl, sym, ◌∙◌}
-use mathlib.Core.Bool.{Bool, true, false, false≢true, ◌&&◌, ◌||◌, not}
+use mathlib.Core.Bool.{Bool, true, false, false≢true, ◌&&◌, not}
 use mathlib.Core.List.{List, [], ◌∷◌, map}
-use Prim.Native.Nat.{ℕ, ◌+◌, ◌≤◌, max}
+use Prim.Native.Nat.{ℕ, ◌+◌, ◌≤◌}
 use Prim.Native.Char.{code}
 use native.Mathlib.Omega.{arith}
 use lib.Dec.{eqb}
 use lib.ListN.{length, drop, length-drop}
 use borrow.Author.Tests.{eq-eqb}
 use Rattle.whole.specs.Choice.{if◌then◌else◌}
-use Rattle.whole.specs.Text.{name_of}
 use Rattle.whole.proofs.Choice.{and_true}
 use Rattle.text.specs.declared.columns.Holds.{Holds}
-use Rattle.text.specs.declared.columns.Holds.TheVariants.{Id, Name, Letter, Natural, Signed, NaturalOr}
+use Rattle.text.specs.declared.columns.Holds.TheVariants.{Id, Name, Letter, Natural, Signed}
 use Rattle.text.specs.Fields.{field, later, fields, sized, every, digit, small, letter}
 use Rattle.text.specs.Numbers.{leading_zero, is_number, value_of}
-use Rattle.text.specs.Columns.{Column, held, id_byte, longest_id, longest_name, is_name, is_word, rule, rule_of, most_bytes, with_commas}
+use Rattle.text.specs.Columns.{Column, held, id_byte, longest_id, longest_name, rule, rule_of, most_bytes, with_commas}
 use Rattle.text.specs.Promised.{FieldsShort}
 use Rattle.text.proofs.Rows.{keep, kept_none, Split, only, comma, split}
 use Rattle.text.proofs.Names.{sized-short}
@@ -32,23 +31,15 @@ signed_short most (b ∷ s) e = by (eqb b (code "-")) e
     by true e = omega (arith, number_short most s (and_true (is_number most s) (not (eqb (value_of s) 0)) e).0)
     by false e = omega (arith, number_short most (b ∷ s) e)
 
-or_short : (most word : ℕ) (s : List ℕ) → rule_of (NaturalOr most word) s ≡ true → length s ≤ max most longest_name
-or_short most word s e = by (is_number most s) refl e
-  where
-    by : (t : Bool) → is_number most s ≡ t → (t || is_word word s) ≡ true → length s ≤ max most longest_name
-    by true n e = omega (arith, number_short most s n)
-    by false n e = omega (arith, sized-short longest_name small s (and_true (is_name s) (eqb (name_of s) word) e).0)
-
 field-short : (what : Holds) (s : List ℕ) → rule_of what s ≡ true → length s ≤ most_bytes what
 field-short Id s e = sized-short longest_id id_byte s e
 field-short Name s e = sized-short longest_name small s e
 field-short Letter s e = sized-short 1 letter s e
 field-short (Natural most) s e = number_short most s e
 field-short (Signed most) s e = signed_short most s e
-field-short (NaturalOr most word) s e = or_short most word s e
 
 -- with a comma after the last field too
-pub kept_short : (cs : List Column) (s : List ℕ) → keep cs (fields s) ≡ true → length s + 1 ≤ with_commas cs
+kept_short : (cs : List Column) (s : List ℕ) → keep cs (fields s) ≡ true → length s + 1 ≤ with_commas cs
 kept_short [] s e = absurd (false≢true e)
 kept_short (c ∷ cs) s e =
     let both = and_true (rule c (field s)) (keep cs (later s)) e in

@@ -1,4 +1,4 @@
--- The first field of a row and the first two, with the comma after each, stand at its line's start.
+-- The first two fields of a row, with the comma after each, stand at its line's start.
 use mathlib.Core.Path.{◌≡◌, refl, sym, ap, ◌∙◌}
 use mathlib.Core.Bool.{Bool, true, false, false≢true, ◌&&◌}
 use mathlib.Core.List.{List, [], ◌∷◌, ◌++◌, append_assoc}
@@ -33,13 +33,6 @@ module _ (c₁ c₂ c₃ : Column) (cs : List Column) (line : List ℕ) where
           let two = and_true (rule c₂ (field (drop on line))) (keep (c₃ ∷ cs) (later (drop on line))) (ap (keep (c₂ ∷ c₃ ∷ cs)) (sym l) ∙ k) in
           rw (first, l) (keeps line (rule c₂) on n two.0 ∙ omega arith)
 
-  -- and after the first
-  pub id-end : well_formed (c₁ ∷ c₂ ∷ c₃ ∷ cs) line ≡ true → next_at (rule c₁) line 0 ≡ length (field_at 0 line) + 1
-  id-end w =
-      let k = (is_row (c₁ ∷ c₂ ∷ c₃ ∷ cs) line w).kept in
-      let one = and_true (rule c₁ (field line)) (keep (c₂ ∷ c₃ ∷ cs) (later line)) k in
-      keeps line (rule c₁) 0 (omega arith) one.0 ∙ (let z : 0 + (length (field line) + 1) ≡ length (field line) + 1 = omega arith in z)
-
   pub record Named : Type 0 where
     pub within : names_length line ≤ length line
     pub first : take (names_length line) line ≡ field_at 0 line ++ ascii "," ++ field_at 1 line ++ ascii ","
@@ -66,26 +59,6 @@ module _ (c₁ c₂ c₃ : Column) (cs : List Column) (line : List ℕ) where
             first = rw (zero, one) (ap (take (length f + 1 + length g + 1)) parts ∙ take_at x (joined (h ∷ fs)) (length f + 1 + length g + 1) n);
             rule-one = rw zero i.0;
             rule-two = rw one (and_true (rule c₂ g) _ i.1).0;
-          }
-
-  -- the first field with its comma
-  pub record Begun : Type 0 where
-    pub within : length (field_at 0 line) + 1 ≤ length line
-    pub first : take (length (field_at 0 line) + 1) line ≡ field_at 0 line ++ ascii ","
-
-  pub begun : well_formed (c₁ ∷ c₂ ∷ c₃ ∷ cs) line ≡ true → Begun
-  begun w = by (fields line) refl (is_row (c₁ ∷ c₂ ∷ c₃ ∷ cs) line w).kept
-    where
-      by : (fs : List (List ℕ)) → fields line ≡ fs → keep (c₁ ∷ c₂ ∷ c₃ ∷ cs) fs ≡ true → Begun
-      by [] e k = absurd (false≢true k)
-      by (f ∷ []) e k = absurd (false≢true (and_true (rule c₁ f) false k).1)
-      by (f ∷ g ∷ fs) e k =
-          let parts : line ≡ (f ++ ascii ",") ++ joined (g ∷ fs) = sym (fields-joined line) ∙ ap joined e in
-          let n : length (f ++ ascii ",") ≡ length f + 1 = length-append f (ascii ",") in
-          let zero : field_at 0 line ≡ f = ap (λ (fs : List (List ℕ)). get_or fs 0 []) e in
-          record {
-            within = rw zero (omega (arith, n, ap length parts, length-append (f ++ ascii ",") (joined (g ∷ fs))));
-            first = rw zero (ap (take (length f + 1)) parts ∙ take_at (f ++ ascii ",") (joined (g ∷ fs)) (length f + 1) n);
           }
 
 -- a field of a rule by size has no more bytes than that

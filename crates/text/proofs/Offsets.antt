@@ -46,18 +46,13 @@ digits_most n (b ∷ x) h =
     let d : b - code "0" ≤ 9 = omega (arith, digit_bounds b p.0) in
     rw (pow-suc 10 (length x)) (le_trans (digits_most (n * 10 + (b - code "0")) x p.1) (turn_most n (b - code "0") (10 ^ length x) d))
 
-pub value_under : (most : ℕ) (f : List ℕ) → is_number most f ≡ true → value_of f < 10 ^ most
-value_under most f e =
+value_most : (most : ℕ) (f : List ℕ) → is_number most f ≡ true → most ≤ most_digits → value_of f < 10 ^ most_digits
+value_most most f e few =
     let p = and_true (sized 1 most f && every digit f) _ e in
     let q = and_true (sized 1 most f) (every digit f) p.0 in
     let l = leb-true (length f) most (and_true (leb 1 (length f)) (leb (length f) most) q.0).1 in
-    let m : 10 ^ length f ≤ 10 ^ most = pow-le-pow_right (lit< tt) l in
+    let m : 10 ^ length f ≤ 10 ^ most_digits = pow-le-pow_right (lit< tt) (le_trans l few) in
     omega (arith, digits_most 0 f q.1, m)
-
-value_most : (most : ℕ) (f : List ℕ) → is_number most f ≡ true → most ≤ most_digits → value_of f < 10 ^ most_digits
-value_most most f e few =
-    let m : 10 ^ most ≤ 10 ^ most_digits = pow-le-pow_right (lit< tt) few in
-    omega (arith, value_under most f e, m)
 
 pub number_most : (most : ℕ) (s : List ℕ) → most ≤ most_digits → (scanned_in (is_number most) value_of s).value < 10 ^ most_digits
 number_most most s few = by (is_number most (field s)) refl

@@ -1,16 +1,12 @@
 -- Texts written over a buffer.
-use mathlib.Core.Path.{◌≡◌, sym, ap, ap₂, ◌∙◌}
-use mathlib.Core.List.{List, [], ◌∷◌, ◌++◌, append_assoc, append-nil}
-use native.Mathlib.Nat.{zero-add, add-zero}
+use mathlib.Core.Path.{◌≡◌, sym, ap, ◌∙◌}
+use mathlib.Core.List.{List, [], ◌∷◌, ◌++◌, append_assoc}
+use native.Mathlib.Nat.{zero-add}
 use native.Mathlib.Omega.{arith}
-use Prim.Native.Nat.{ℕ, suc, ◌+◌, ◌≤◌, ◌<◌}
-use lib.ListN.{length, take, drop, set, get_or, length-append, take-append-drop}
+use Prim.Native.Nat.{ℕ, suc, ◌+◌, ◌<◌}
+use lib.ListN.{length, take, drop, set, get_or, length-append}
 use lib.Seq.{take-append_seam, drop-append-add, drop-drop, take-suc, length-take-le, set_at, paste, take-length}
 use Rattle.text.specs.Writing.{over}
-
--- no text
-pub over_none : (out : List ℕ) (at : ℕ) → over out at [] ≡ out
-over_none out at = rw (append-nil (take at out), add-zero at) (take-append-drop at out)
 
 -- a text at the start
 pub over_start : (text out : List ℕ) → over out 0 text ≡ text ++ drop (length text) out
@@ -20,15 +16,6 @@ over_start text out = ap (λ (n : ℕ). text ++ drop n out) (zero-add (length te
 pub over_more : (x y out out₁ : List ℕ) (at : ℕ) → at ≡ length x → out₁ ≡ x ++ drop (length x) out → over out₁ at y ≡ (x ++ y) ++ drop (length (x ++ y)) out
 over_more x y out out₁ at a e =
     rw (a, e, take-append_seam x (drop (length x) out), drop-append-add x (drop (length x) out) (length y), drop-drop (length y) (length x) out, length-append x y)
-
--- the same from an offset on
-pub over_then : (out : List ℕ) (at : ℕ) (x y : List ℕ) → at ≤ length out → over (over out at x) (at + length x) y ≡ over out at (x ++ y)
-over_then out at x y h =
-    let first = take at out ++ x in
-    let long : length first ≡ at + length x = length-append (take at out) x ∙ ap (λ (n : ℕ). n + length x) (length-take-le at out h) in
-    let both : length (first ++ y) ≡ at + length (x ++ y) = length-append first y ∙ omega (arith, long, length-append x y) in
-    over_more first y out (over out at x) (at + length x) (sym long) (ap (λ (n : ℕ). first ++ drop n out) (sym long))
-    ∙ ap₂ (λ (l : List ℕ) (n : ℕ). l ++ drop n out) (append_assoc (take at out) x y) both
 
 pub over_pasted : (out : List ℕ) (at : ℕ) (text : List ℕ) → paste out at text (length text) ≡ over out at text
 over_pasted out at text = rw (take-length text)

@@ -4,10 +4,10 @@ use mathlib.Core.Bool.{Bool, true, false, false≢true, ◌&&◌, not}
 use mathlib.Core.List.{List, [], ◌∷◌, ◌++◌, append_assoc, append-nil}
 use native.Mathlib.Decide.{dec_le}
 use native.Mathlib.Omega.{arith}
-use Prim.Native.Nat.{ℕ, zero, suc, ◌+◌, ◌-◌, ◌*◌, ◌/◌, ◌%◌, ◌^◌, ◌≤◌, ◌<◌}
+use Prim.Native.Nat.{ℕ, zero, suc, ◌+◌, ◌-◌, ◌*◌, ◌/◌, ◌%◌, ◌≤◌, ◌<◌}
 use Prim.Native.Char.{code}
 use lib.Dec.{eqb}
-use lib.IntN.{pos, negsuc, nat_abs, ◌-ℤ◌}
+use lib.IntN.{pos, negsuc, ◌-ℤ◌}
 use lib.ListN.{length, get_or, get_or-append}
 use borrow.Author.Tests.{le-leb, eqb-true, eqb-false, ne_eqb, not-true}
 use Rattle.whole.specs.Choice.{if◌then◌else◌}
@@ -18,8 +18,7 @@ use Rattle.text.specs.Numbers.{leading_zero, is_number, digits_after, value_of, 
 use Rattle.text.proofs.Digits.{digits_more, digit_bounds}
 use Rattle.text.specs.Decimal.{decimal, signed_decimal}
 use Rattle.text.specs.Promised.{NumberReadBack, SignedReadBack, NumberWrittenBack, SignedWrittenBack}
-use Rattle.text.proofs.Offsets.{value_under}
-use Rattle.text.proofs.Decimals.{decimal-one, decimal_more, some_digit, few-digits}
+use Rattle.text.proofs.Decimals.{decimal-one, decimal_more, some_digit, few_digits}
 
 -- ---- what the rule of a number says
 number_parts : (most : ℕ) (s : List ℕ) → is_number most s ≡ true → (every digit s ≡ true) × (leading_zero s ≡ false)
@@ -83,7 +82,7 @@ decimal_plain n =
 pub number_read_back : NumberReadBack
 number_read_back zero n one h = absurd (omega arith)
 number_read_back (suc most) n one h =
-    (rw (le-leb 1 (length (decimal n)) (some_digit n), le-leb (length (decimal n)) (suc most) (few-digits most n h), (spelt n).digits, decimal_plain n), (spelt n).value)
+    (rw (le-leb 1 (length (decimal n)) (some_digit n), le-leb (length (decimal n)) (suc most) (few_digits most n h), (spelt n).digits, decimal_plain n), (spelt n).value)
 
 -- a number starts with a digit, and so with no minus
 signed_plain : (most : ℕ) (s : List ℕ) → is_number most s ≡ true → (is_signed most s ≡ true) × (signed_of s ≡ pos (value_of s))
@@ -148,16 +147,3 @@ signed_written_back most (b ∷ s) e = by (eqb b (code "-")) refl e
         ∙ ap (λ (x : List ℕ). code "-" ∷ x) (number_written_back most s p.0)
         ∙ ap (λ (c : ℕ). c ∷ s) (sym (eqb-true b (code "-") k))
     by false k e = number_written_back most (b ∷ s) e
-
--- ---- how large a number is that was read
-negated_size : (n : ℕ) → nat_abs (pos 0 -ℤ pos n) ≡ n
-negated_size zero = refl
-negated_size (suc n) = ap nat_abs (negated n)
-
-pub signed_under : (most : ℕ) (s : List ℕ) → is_signed most s ≡ true → nat_abs (signed_of s) < 10 ^ most
-signed_under most [] e = absurd (false≢true e)
-signed_under most (b ∷ s) e = by (eqb b (code "-")) e
-  where
-    by : (t : Bool) → (if t then is_number most s && not (eqb (value_of s) 0) else is_number most (b ∷ s)) ≡ true → nat_abs (if t then pos 0 -ℤ pos (value_of s) else pos (value_of (b ∷ s))) < 10 ^ most
-    by true e = omega (arith, negated_size (value_of s), value_under most s (and_true (is_number most s) (not (eqb (value_of s) 0)) e).0)
-    by false e = value_under most (b ∷ s) e

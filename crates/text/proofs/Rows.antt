@@ -1,6 +1,6 @@
 -- A line read field by field: whether it is a row of its columns, and what it then says.
 use mathlib.Core.Path.{◌≡◌, refl, sym, ap, ◌∙◌}
-use mathlib.Core.Bool.{Bool, true, false, false≢true, ◌&&◌, ◌||◌, not}
+use mathlib.Core.Bool.{Bool, true, false, false≢true, ◌&&◌, not}
 use mathlib.Core.List.{List, [], ◌∷◌, map}
 use mathlib.Core.Option.{Option, some}
 use native.Mathlib.Omega.{arith}
@@ -16,7 +16,6 @@ use Rattle.whole.specs.Text.{name_of}
 use Rattle.whole.proofs.Choice.{and_true}
 use Rattle.text.specs.declared.field.Scanned.{Scanned}
 use Rattle.text.specs.declared.number.Signed.{Signed}
-use Rattle.text.specs.declared.number.NumberOr.{NumberOr}
 use Rattle.text.specs.Fields.{field, later, fields}
 use Rattle.text.specs.Numbers.{is_number, value_of}
 use Rattle.text.specs.declared.columns.Holds.{Holds}
@@ -24,9 +23,8 @@ use Rattle.text.specs.declared.columns.Holds.TheVariants as holds
 use Rattle.text.specs.declared.columns.Fault.{Fault}
 use Rattle.text.specs.declared.columns.Fault.TheVariants.{WrongCount, Broken}
 use Rattle.text.specs.Columns as columns
-use Rattle.text.specs.Columns.{Column, ◌holds◌, held, is_id, is_name, is_letter, is_word, longest_line, rule, rule_of, first_broken, fault_by, fault_of, is_none, well_formed, Value, first_byte, said_by, values}
-use Rattle.text.specs.Scanned.{nowhere, next_of, next_at, scanned_at, signed_at, number_or_at, said_or}
-use Rattle.text.proofs.Words.{no_word}
+use Rattle.text.specs.Columns.{Column, ◌holds◌, held, is_id, is_name, is_letter, longest_line, rule, rule_of, first_broken, fault_by, fault_of, is_none, well_formed, Value, first_byte, said_by, values}
+use Rattle.text.specs.Scanned.{nowhere, next_of, next_at, scanned_at, signed_at}
 
 -- ---- one field for each column, which keeps its rule
 abbrev pub keep : List Column → List (List ℕ) → Bool
@@ -153,7 +151,6 @@ module _ (line : List ℕ) where
   said_at holds.Letter from = columns.byte (scanned_at is_letter first_byte line from).value
   said_at (holds.Natural most) from = columns.count (scanned_at (is_number most) value_of line from).value
   said_at (holds.Signed most) from = columns.integer (signed_at most line from).value
-  said_at (holds.NaturalOr most word) from = said_or word (number_or_at most word line from)
 
   said_from : List Column → ℕ → List Value
   said_from [] from = []
@@ -166,17 +163,6 @@ module _ (line : List ℕ) where
   said-is holds.Letter from h k = rw (le-leb from (length line) h, k)
   said-is (holds.Natural most) from h k = rw (le-leb from (length line) h, k)
   said-is (holds.Signed most) from h k = rw (le-leb from (length line) h, k)
-  said-is (holds.NaturalOr most word) from h k = rw (le-leb from (length line) h) (by (is_number most f) refl (is_word word f) refl k)
-    where
-      f : List ℕ
-      f = field (drop from line)
-
-      by : (t : Bool) → is_number most f ≡ t → (u : Bool) → is_word word f ≡ u → (t || u) ≡ true
-          → (if u then columns.named word else columns.count (if t then value_of f else 0)) ≡ (if t then columns.count (value_of f) else columns.named (name_of f))
-      by true n true w k = absurd (false≢true (sym (no_word most word f n) ∙ w))
-      by true n false w k = refl
-      by false n true w k = ap columns.named (sym (eqb-true (name_of f) word (and_true (is_name f) (eqb (name_of f) word) w).1))
-      by false n false w k = absurd (false≢true k)
 
   kept-says : (cs : List Column) (from : ℕ) → from ≤ length line → keep cs (fields (drop from line)) ≡ true → said_from cs from ≡ said_by cs (fields (drop from line))
   unfolding said_from
@@ -211,8 +197,6 @@ module _ (line : List ℕ) where
         → Scan ((title holds holds.Natural most) ∷ cs) from end (columns.count x.value ∷ vs)
     a_signed : {title : String} {most : ℕ} {cs : List Column} {from end : ℕ} {vs : List Value} (x : Signed) → x ≡ signed_at most line from → Scan cs x.next end vs
         → Scan ((title holds holds.Signed most) ∷ cs) from end (columns.integer x.value ∷ vs)
-    a-natural-or : {title : String} {most word : ℕ} {cs : List Column} {from end : ℕ} {vs : List Value} (x : NumberOr) → x ≡ number_or_at most word line from → Scan cs x.next end vs
-        → Scan ((title holds holds.NaturalOr most word) ∷ cs) from end (said_or word x ∷ vs)
 
   scan-ends : {cs : List Column} {from end : ℕ} {vs : List Value} → Scan cs from end vs → end ≡ end_of cs from
   unfolding end_of
@@ -222,7 +206,6 @@ module _ (line : List ℕ) where
   scan-ends (a-letter {cs = cs} x e s) = scan-ends s ∙ ap (λ (x : Scanned). end_of cs x.next) e
   scan-ends (a-natural {cs = cs} x e s) = scan-ends s ∙ ap (λ (x : Scanned). end_of cs x.next) e
   scan-ends (a_signed {cs = cs} x e s) = scan-ends s ∙ ap (λ (x : Signed). end_of cs x.next) e
-  scan-ends (a-natural-or {cs = cs} x e s) = scan-ends s ∙ ap (λ (x : NumberOr). end_of cs x.next) e
 
   scan-says : {cs : List Column} {from end : ℕ} {vs : List Value} → Scan cs from end vs → vs ≡ said_from cs from
   unfolding said_from said_at
@@ -232,7 +215,6 @@ module _ (line : List ℕ) where
   scan-says (a-letter {cs = cs} x e s) = ap (λ (vs : List Value). columns.byte x.value ∷ vs) (scan-says s) ∙ ap (λ (x : Scanned). columns.byte x.value ∷ said_from cs x.next) e
   scan-says (a-natural {cs = cs} x e s) = ap (λ (vs : List Value). columns.count x.value ∷ vs) (scan-says s) ∙ ap (λ (x : Scanned). columns.count x.value ∷ said_from cs x.next) e
   scan-says (a_signed {cs = cs} x e s) = ap (λ (vs : List Value). columns.integer x.value ∷ vs) (scan-says s) ∙ ap (λ (x : Signed). columns.integer x.value ∷ said_from cs x.next) e
-  scan-says (a-natural-or {word = word} {cs = cs} x e s) = ap (λ (vs : List Value). said_or word x ∷ vs) (scan-says s) ∙ ap (λ (x : NumberOr). said_or word x ∷ said_from cs x.next) e
 
   module _ {cs : List Column} {end : ℕ} {vs : List Value} (s : Scan cs 0 end vs) (short : length line ≤ longest_line) where
     form : well_formed cs line ≡ eqb end (length line + 1)

@@ -1,12 +1,12 @@
 -- A list's columns are a table. From it come the rules of a row, what the row says, and why a line is no row.
-use Rattle.std.specs.Prelude.{List, [], ◌∷◌, map, Bool, true, false, ◌&&◌, ◌||◌, not, ℕ, ◌+◌, ◌-◌, max, ltb, eqb, ℤ, pos, length, get_or}
+use Rattle.std.specs.Prelude.{List, [], ◌∷◌, map, Bool, true, false, ◌&&◌, ◌||◌, not, ℕ, ◌+◌, ◌-◌, ltb, eqb, ℤ, pos, length, get_or}
 use Rattle.std.proofs.Math.Option.{Option, none, some}
 use Prim.Native.Char.{code}
 use Prim.Native.String.{String}
 use Rattle.whole.specs.Choice.{if◌then◌else◌}
 use Rattle.whole.specs.Text.{ascii, name_of}
 use Rattle.text.specs.declared.columns.Holds.{Holds}
-use Rattle.text.specs.declared.columns.Holds.TheVariants.{Id, Name, Letter, Natural, Signed, NaturalOr}
+use Rattle.text.specs.declared.columns.Holds.TheVariants.{Id, Name, Letter, Natural, Signed}
 use Rattle.text.specs.declared.columns.Fault.{Fault}
 use Rattle.text.specs.declared.columns.Fault.TheVariants.{TooLong, WrongCount, Broken}
 use Rattle.text.specs.Fields.{fields, sized, every, digit, capital, small, letter}
@@ -14,7 +14,7 @@ use Rattle.text.specs.Joined.{joined}
 use Rattle.text.specs.Numbers.{is_number, is_signed, value_of, signed_of}
 
 -- What a column holds is a case of `Holds`, an enum of the code: an id, a name, a letter, a number from 0 up or a number of either sign, these two of at most so
--- many digits; or a number from 0 up of at most so many digits or one word, given as the number of its name.
+-- many digits.
 -- A column: the title that the header has for it, and what it holds.
 infix 70 ◌holds◌
 pub data Column : Type 0 where
@@ -55,14 +55,6 @@ is_name s = sized 1 longest_name s && every small s
 abbrev pub is_letter : List ℕ → Bool
 is_letter s = sized 1 1 s && every letter s
 
--- The one word that has this number.
-abbrev pub is_word : ℕ → List ℕ → Bool
-is_word word s = is_name s && eqb (name_of s) word
-
--- A number from 0 up, of at most so many digits, or that word.
-abbrev pub is_number_or : ℕ → ℕ → List ℕ → Bool
-is_number_or most word s = is_number most s || is_word word s
-
 -- The rule of a field.
 abbrev pub rule_of : Holds → List ℕ → Bool
 rule_of Id = is_id
@@ -70,7 +62,6 @@ rule_of Name = is_name
 rule_of Letter = is_letter
 rule_of (Natural most) = is_number most
 rule_of (Signed most) = is_signed most
-rule_of (NaturalOr most word) = is_number_or most word
 
 abbrev pub rule : Column → List ℕ → Bool
 rule column = rule_of (held column)
@@ -114,7 +105,6 @@ most_bytes Name = longest_name
 most_bytes Letter = 1
 most_bytes (Natural most) = most
 most_bytes (Signed most) = most + 1
-most_bytes (NaturalOr most word) = max most longest_name
 
 -- Those of all fields, with a comma after each.
 abbrev pub with_commas : List Column → ℕ
@@ -126,8 +116,7 @@ abbrev pub longest_by_fields : List Column → ℕ
 longest_by_fields columns = with_commas columns - 1
 
 -- ---- what a row says
--- An id as its bytes, a name as its number, a letter as its byte, a number from 0 up as a count and one of either sign as an integer; a number or a word as
--- what it is, a count or the word's number.
+-- An id as its bytes, a name as its number, a letter as its byte, a number from 0 up as a count and one of either sign as an integer.
 pub data Value : Type 0 where
   word : List ℕ → Value
   named : ℕ → Value
@@ -144,7 +133,6 @@ said_as Name f = named (name_of f)
 said_as Letter f = byte (first_byte f)
 said_as (Natural most) f = count (value_of f)
 said_as (Signed most) f = integer (signed_of f)
-said_as (NaturalOr most name) f = if is_number most f then count (value_of f) else named (name_of f)
 
 abbrev pub said : Column → List ℕ → Value
 said column = said_as (held column)

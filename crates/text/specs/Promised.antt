@@ -1,14 +1,11 @@
--- What is promised of numbers and names: written and read back, and read and written back, they are the same; of the field that a fault names; and of how long
--- a line is.
+-- What is promised of numbers: written and read back, and read and written back, they are the same; of the field that a fault names; and of how long a line is.
 use Rattle.std.specs.Prelude.{◌≡◌, true, false, List, map, ℕ, ◌-◌, ◌^◌, ◌<◌, ◌≤◌, length, ℤ, nat_abs}
 use Rattle.std.proofs.Math.Option.{none, some}
-use Rattle.whole.specs.Text.{name_of}
 use Rattle.text.specs.Fields.{fields}
 use Rattle.text.specs.declared.columns.Fault.TheVariants.{Broken}
-use Rattle.text.specs.Columns.{Column, held, column_at, is_name, longest_line, rule, field_at, first_broken, fault_of, longest_by_fields}
+use Rattle.text.specs.Columns.{Column, held, column_at, longest_line, rule, field_at, first_broken, fault_of, longest_by_fields}
 use Rattle.text.specs.Numbers.{is_number, value_of, is_signed, signed_of}
 use Rattle.text.specs.Decimal.{decimal, signed_decimal}
-use Rattle.text.specs.Spelling.{letters}
 
 -- A number of so many digits, written and read back, is the same.
 abbrev pub NumberReadBack : Type 0
@@ -23,13 +20,6 @@ NumberWrittenBack = (most : ℕ) (s : List ℕ) → is_number most s ≡ true �
 
 abbrev pub SignedWrittenBack : Type 0
 SignedWrittenBack = (most : ℕ) (s : List ℕ) → is_signed most s ≡ true → signed_decimal (signed_of s) ≡ s
-
--- A name's number, written in letters and read back, is the same; and a name read and written back is the same.
-abbrev pub NameReadBack : Type 0
-NameReadBack = (n : ℕ) → name_of (letters n) ≡ n
-
-abbrev pub NameWrittenBack : Type 0
-NameWrittenBack = (s : List ℕ) → is_name s ≡ true → letters (name_of s) ≡ s
 
 -- The line is short enough and has a field for each column; that with this number, counted from 1, breaks its rule, and none left of it does.
 pub record FirstToBreak (columns : List Column) (line : List ℕ) (number : ℕ) : Type 0 where

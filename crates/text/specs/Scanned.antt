@@ -7,15 +7,14 @@ use Prim.Native.Char.{code}
 use Rattle.whole.specs.Choice.{if◌then◌else◌}
 use Rattle.text.specs.declared.field.Scanned.{Scanned}
 use Rattle.text.specs.declared.number.Signed.{Signed}
-use Rattle.text.specs.declared.number.NumberOr.{NumberOr}
 use Rattle.text.specs.Fields.{field}
 use Rattle.text.specs.declared.columns.Holds.{Holds}
 use Rattle.text.specs.declared.columns.Holds.TheVariants as holds
 use Rattle.text.specs.declared.columns.Fault.{Fault}
 use Rattle.text.specs.declared.columns.Faulty.{Faulty}
 use Rattle.text.specs.declared.columns.Faulty.TheVariants.{By, No}
-use Rattle.text.specs.Numbers.{most_digits, is_number, value_of, is_signed, signed_of}
-use Rattle.text.specs.Columns.{is_word, is_number_or, rule_of, Value, named, count}
+use Rattle.text.specs.Numbers.{most_digits, is_signed, signed_of}
+use Rattle.text.specs.Columns.{rule_of}
 
 -- A field ends here: before a comma or at the end of the line.
 abbrev pub ends : List ℕ → Bool
@@ -61,18 +60,6 @@ scanned_at rule value line from = record { value = if leb from (length line) the
 abbrev pub signed_at : ℕ → List ℕ → ℕ → Signed
 signed_at most line from = record { value = if leb from (length line) then (signed_in most (drop from line)).value else pos 0; next = next_at (is_signed most) line from }
 
--- Whether the field that starts there is the word; its number, 0 if it is none.
-abbrev pub number_or_at : ℕ → ℕ → List ℕ → ℕ → NumberOr
-number_or_at most word line from = record {
-  is_word = leb from (length line) && is_word word (field (drop from line));
-  value = (scanned_at (is_number most) value_of line from).value;
-  next = next_at (is_number_or most word) line from;
-}
-
--- The value that it says: the word by its number, or a count.
-abbrev pub said_or : ℕ → NumberOr → Value
-said_or name x = if x.is_word then named name else count x.value
-
 -- ---- why a line is no row, field by field
 abbrev pub commas_in : List ℕ → ℕ
 commas_in [] = 0
@@ -97,4 +84,3 @@ is_narrow holds.Name = true
 is_narrow holds.Letter = true
 is_narrow (holds.Natural most) = leb most most_digits
 is_narrow (holds.Signed most) = leb most most_digits
-is_narrow (holds.NaturalOr most word) = leb most most_digits

@@ -7,13 +7,12 @@ ghost use Rattle.text.specs.Scanned.{next_at, commas_in, first_lost, stated_faul
 
 use crate::field::LONGEST_LINE;
 use crate::name::{id_at, letter_at, name_at};
-use crate::number::{number_at, number_or_at, signed_at};
+use crate::number::{number_at, signed_at};
 
 // The most columns that a list has.
 pub const MOST_COLUMNS: usize = 16;
 
-// An id, a name, a letter, a number from 0 up or a number of either sign, these two of at most so many digits; or a number from 0 up of at most so many digits
-// or one word, given as the number of its name.
+// An id, a name, a letter, a number from 0 up or a number of either sign, these two of at most so many digits.
 #[derive(Drop)]
 pub enum Holds {
     Id,
@@ -21,7 +20,6 @@ pub enum Holds {
     Letter,
     Natural(usize),
     Signed(usize),
-    NaturalOr(usize, u64),
 }
 
 // The line is too long, it has not as many fields as there are columns, or the field with this number, counted from 1, breaks its rule.
@@ -65,7 +63,6 @@ fn next_field(line: &[u8], from: usize, held: Holds) -> usize
         Holds::Letter => letter_at(line, from).next,
         Holds::Natural(most) => number_at(line, from, most).next,
         Holds::Signed(most) => signed_at(line, from, most).next,
-        Holds::NaturalOr(most, word) => number_or_at(line, from, most, word).next,
     }
 }
 

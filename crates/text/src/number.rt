@@ -3,11 +3,10 @@ ghost use Rattle.std.specs.Prelude.{◌≡◌, false, ◌≤◌, pos, length, ge
 ghost use Rattle.text.specs.Fields.{digit};
 ghost use Rattle.text.specs.Numbers.{most_digits, is_number, value_of};
 ghost use Rattle.text.specs.Columns.{longest_line};
-ghost use Rattle.text.specs.Scanned.{nowhere, scanned_in, scanned_at, signed_if, signed_in, signed_at, number_or_at};
+ghost use Rattle.text.specs.Scanned.{scanned_in, scanned_at, signed_if, signed_in, signed_at};
 
 use crate::field;
 use crate::field::Scanned;
-use crate::name::name_at;
 
 // So many digits a number has in any column, and fits 64 bits with a sign.
 const MOST_DIGITS: usize = 18;
@@ -16,14 +15,6 @@ const MOST_DIGITS: usize = 18;
 #[derive(Drop)]
 pub struct Signed {
     pub value: i64,
-    pub next: usize,
-}
-
-// What a field that holds a number or one word says: whether it is the word, its number, 0 where it is the word or breaks its rule, and where the next field starts.
-#[derive(Drop)]
-pub struct NumberOr {
-    pub is_word: bool,
-    pub value: u64,
     pub next: usize,
 }
 
@@ -150,43 +141,4 @@ pub fn signed_at(line: &[u8], from: usize, most: usize) -> Signed
         };
     }
     no_signed(line)
-}
-
-// What a field that holds neither a number nor the word says.
-fn neither(line: &[u8]) -> NumberOr
-    requires { length line.now ≤ longest_line }
-    ensures { result ≡ record { is_word = false; value = 0; next = nowhere (length line.now) } }
-{
-    NumberOr {
-        is_word: false,
-        value: 0,
-        next: field::no_field(line),
-    }
-}
-
-// The number, of at most so many digits, or the word in the field that starts at an offset of the line. The word is looked for where the field is no number.
-pub fn number_or_at(line: &[u8], from: usize, most: usize, word: u64) -> NumberOr
-    requires { (length line.now ≤ longest_line) × (most ≤ most_digits) }
-    ensures { result ≡ number_or_at most word line.now from }
-{
-    let n = number_at(line, from, most);
-    if n.next <= line.len() + 1 {
-        return NumberOr {
-            is_word: false,
-            value: n.value,
-            next: n.next,
-        };
-    }
-    let name = name_at(line, from);
-    if name.next > line.len() + 1 {
-        return neither(line);
-    }
-    if name.value != word {
-        return neither(line);
-    }
-    NumberOr {
-        is_word: true,
-        value: 0,
-        next: name.next,
-    }
 }

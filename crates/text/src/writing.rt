@@ -1,12 +1,10 @@
 // A text written into a lent buffer.
 ghost use Rattle.std.specs.Prelude.{◌≡◌, ◌+◌, ◌≤◌, ◌++◌, length};
 ghost use Rattle.whole.specs.Text.{ascii};
-ghost use Rattle.text.specs.Columns.{longest_name};
 ghost use Rattle.text.specs.Decimal.{decimal, signed_decimal, longest_number};
-ghost use Rattle.text.specs.Spelling.{letters};
 ghost use Rattle.text.specs.Writing.{over, Added};
 
-use crate::{decimal, spelling};
+use crate::decimal;
 
 // Writes s from `at` on.
 pub fn put(out: &mut [u8], at: usize, s: &[u8])
@@ -52,14 +50,4 @@ pub fn add_signed(out: &mut [u8], at: usize, z: i64) -> usize
     }
     let end = add_number(out, at, size);
     add(out, end, b",")
-}
-
-// Adds a name in its letters.
-pub fn add_name(out: &mut [u8], at: usize, n: u64) -> usize
-    requires { at + longest_name ≤ length out.old }
-    ensures { Added out.old at (letters n) out.new result × (result ≤ at + longest_name) }
-{
-    let width = spelling::name_width(n);
-    spelling::put_name(out, at, n, width);
-    at + width
 }

@@ -20,7 +20,6 @@ fn takes(held: Holds, b: u8) -> bool {
         Holds::Letter => is_letter(b),
         Holds::Natural(_) => is_digit(b),
         Holds::Signed(_) => is_digit(b),
-        Holds::NaturalOr(_, _) => is_digit(b),
     }
 }
 
@@ -94,7 +93,6 @@ fn say_of_size(held: Holds, field: &[u8]) -> bool {
         Holds::Letter => say(b"more than one letter\n"),
         Holds::Natural(most) => say_of_digits(field, most),
         Holds::Signed(most) => say_of_digits(field, most),
-        Holds::NaturalOr(most, _) => say_of_digits(field, most),
     }
 }
 

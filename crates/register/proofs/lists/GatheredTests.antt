@@ -149,8 +149,8 @@ field_if : {A : Type 0} (field : Seen → A) (t : Bool) (x y : Seen) → field (
 field_if field true x y = refl
 field_if field false x y = refl
 
-seen-bad : (s : Seen) (e : Entry) (i f : ℕ) (t : Bool) → not (eqb f i) ≡ t → (seen s e i f).bad ≡ (s.bad || ((not (is_free e) && t) || holds_bad e))
-seen-bad s e i f t p = field_if (λ (x : Seen). x.bad) (is_free e) _ _ ∙ by (is_free e)
+seen_bad : (s : Seen) (e : Entry) (i f : ℕ) (t : Bool) → not (eqb f i) ≡ t → (seen s e i f).bad ≡ (s.bad || ((not (is_free e) && t) || holds_bad e))
+seen_bad s e i f t p = field_if (λ (x : Seen). x.bad) (is_free e) _ _ ∙ by (is_free e)
   where
     by : (u : Bool)
         → (if u then s.bad else (s.bad || not (eqb f i)) || is_bad e.certificate) ≡ (s.bad || ((not u && t) || (not u && is_bad e.certificate)))
@@ -183,7 +183,7 @@ unfolding bad_table
 bad_from table =
     repeats-noted (λ (s : Seen). s.bad) (λ (s : Seen) (e : Entry) (i : ℕ). seen s e i (first_at table e.number.0)) (seen_from table)
     (λ (s : Seen) (i : ℕ). refl) (λ (s : Seen) (i : ℕ) (e : Entry) (es : List Entry). refl) holds_bad table
-    (λ (s : Seen) (e : Entry) (i : ℕ). seen-bad s e i (first_at table e.number.0)) [] table nothing_seen 0 refl refl
+    (λ (s : Seen) (e : Entry) (i : ℕ). seen_bad s e i (first_at table e.number.0)) [] table nothing_seen 0 refl refl
     ∙ ap (λ (t : Bool). t || any holds_bad table) (repeats_twice table)
 
 pub seen_all : (table : List Entry) → ((seen_from table nothing_seen 0 table).bad ≡ bad_table table) × ((seen_from table nothing_seen 0 table).places ≡ places table)

@@ -1,12 +1,11 @@
--- What an accepted import, withdrawal and move have passed.
+-- What an accepted import and an accepted withdrawal have passed.
 use mathlib.Core.Path.{◌≡◌, refl, sym, ◌∙◌}
-use mathlib.Core.Bool.{Bool, true, false, ◌||◌, not}
+use mathlib.Core.Bool.{Bool, true, false}
 use mathlib.Core.List.{List}
-use Prim.Native.Nat.{ℕ, suc, ◌≤◌}
+use Prim.Native.Nat.{ℕ, suc}
 use native.Mathlib.Omega.{arith}
-use borrow.Author.Tests.{eqb-true, eq-eqb, not-false, ltb-false, le-ltb}
-use lib.Dec.{eqb, ltb}
-use lib.ListN.{length}
+use borrow.Author.Tests.{eqb-true, not-false, ltb-false}
+use lib.Dec.{eqb}
 use Rattle.whole.specs.Any.{any}
 use Rattle.whole.specs.Choice.{if◌then◌else◌}
 use Rattle.whole.proofs.Any.{or_false}
@@ -16,7 +15,6 @@ use Rattle.entry.specs.Entry.{fault, is_bad, is_free}
 use Rattle.entry.proofs.Faults.{bad_by}
 use Rattle.register.specs.Table.{entry_of, count, twice, bad_table, places}
 use Rattle.register.specs.Import.{unknown, unsound, unfit, clashing, is_new, short, import_refusal}
-use Rattle.register.specs.Moving.{move_refusal}
 use Rattle.register.specs.Withdrawal.{withdrawal_refusal}
 use Rattle.register.proofs.lists.TableEntries.{Member, member_fails, any_fails}
 use Rattle.register.proofs.lists.PlacedEntries.{bad, faulty, Ready}
@@ -94,17 +92,3 @@ withdrawal_passed table n e =
     let (a, e) = test_not_fired (bad_table table) 22 _ e in
     let (b, e) = test_not_fired (is_free (entry_of table n)) 19 _ e in
     (a, b)
-
--- ---- moves
-module _ (larger old : List Entry) where
-  pub move-passed : move_refusal larger old ≡ 0 → (bad_table old ≡ false) × (length old ≤ length larger) × (places larger ≡ length larger)
-  unfolding move_refusal
-  move-passed e =
-      let (a, e) = test_not_fired (bad_table old) 22 _ e in
-      let (b, e) = test_not_fired (ltb (length larger) (length old) || not (eqb (places larger) (length larger))) 18 _ e in
-      let (c, d) = or_false (ltb (length larger) (length old)) (not (eqb (places larger) (length larger))) b in
-      (a, ltb-false (length larger) (length old) c, eqb-true (places larger) (length larger) (not-false (eqb (places larger) (length larger)) d))
-
-  pub move_accepted : bad_table old ≡ false → length old ≤ length larger → places larger ≡ length larger → move_refusal larger old ≡ 0
-  unfolding move_refusal
-  move_accepted a l f = rw (a, le-ltb (length larger) (length old) l, eq-eqb (places larger) (length larger) f)

@@ -1,10 +1,9 @@
--- From what the tests of an import, a withdrawal or a move have found to what its definition says of the answer and of the table.
+-- From what the tests of an import or a withdrawal have found to what its definition says of the answer and of the table.
 use mathlib.Core.Path.{◌≡◌, sym, ◌∙◌, ap}
 use mathlib.Core.Bool.{Bool, not}
 use mathlib.Core.List.{List}
 use Prim.Native.Nat.{ℕ}
 use lib.Dec.{T, eqb}
-use lib.ListN.{length}
 use borrow.Author.Tests.{eqb-true}
 use Rattle.quantity.specs.Outcomes.{number_given}
 use Rattle.quantity.proofs.Outcomes.{follows-none, follows-refusal}
@@ -14,13 +13,10 @@ use Rattle.examination.specs.declared.testing.Noted.{Noted}
 use Rattle.examination.specs.declared.testing.Seen.{Seen}
 use Rattle.entry.specs.Entry.{raised}
 use Rattle.examination.specs.declared.answering.Change.{Change}
-use Rattle.examination.specs.Answering.{stated, import_tests, withdrawal_tests, move_tests}
+use Rattle.examination.specs.Answering.{stated, import_tests, withdrawal_tests}
 use Rattle.register.specs.Table.{entry_of, put, bad_table, places}
 use Rattle.register.specs.Import.{Tested, placed_all, import_refusal, import_rule, ImportedAs}
-use Rattle.register.specs.Moving.{copied, move_refusal, move_rule, MovedAs}
 use Rattle.register.specs.Withdrawal.{withdrawal_refusal, withdrawal_rule, WithdrawnAs}
-use Rattle.register.proofs.lists.PassedTests.{move-passed}
-use Rattle.register.proofs.lists.MovedEntries.{copied-first}
 use Rattle.register.proofs.walks.PlainTypes.{fails_false, holds_true}
 
 module _ (table list : List Entry) where
@@ -57,21 +53,3 @@ module _ (table : List Entry) (n : ℕ) (serial : Serial) where
     pub withdrawal-kept : T (not accepted) → WithdrawnAs table n serial change table
     unfolding withdrawal_refusal
     withdrawal-kept y = follows-refusal (withdrawal_rule table n serial) (stated change) (sym tells ∙ fails_false accepted y) (sym is)
-
-module _ (larger old : List Entry) where
-  pub move-number : (o s : Seen) (number : ℕ) → o.bad ≡ bad_table old → s.places ≡ places larger
-      → number ≡ number_given (move_tests o.bad (length old) (length larger) s.places) → number ≡ move_refusal larger old
-  unfolding move_refusal
-  move-number o s number bad left e = rw (sym bad, sym left) e
-
-  module _ (change : Change) (is : stated change ≡ move_refusal larger old) (accepted : Bool) (tells : accepted ≡ eqb (stated change) 0) where
-    pub move-made : T accepted → (after : List Entry) → after ≡ copied larger old → MovedAs larger old change after
-    unfolding move_refusal
-    move-made y after e =
-        let none : stated change ≡ 0 = eqb-true (stated change) 0 (sym tells ∙ holds_true accepted y) in
-        let (_, room, _) = move-passed larger old (sym is ∙ none) in
-        follows-none (move_rule larger old) (sym is ∙ none) (record { code = stated change; answer = after }) none (e ∙ copied-first larger old room)
-
-    pub move-kept : T (not accepted) → MovedAs larger old change larger
-    unfolding move_refusal
-    move-kept y = follows-refusal (move_rule larger old) (stated change) (sym tells ∙ fails_false accepted y) (sym is)

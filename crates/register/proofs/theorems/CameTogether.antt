@@ -14,14 +14,12 @@ use Rattle.entry.specs.declared.entry.Serial.{Serial}
 use Rattle.entry.specs.Entry.{is_free, merged, joined, raised}
 use Rattle.register.specs.Table.{first_at, entry_of}
 use Rattle.register.specs.Import.{import_refusal, imported}
-use Rattle.register.specs.Moving.{moved}
 use Rattle.register.specs.Withdrawal.{withdrawal_refusal, withdrawn}
-use Rattle.register.specs.Promised.{Act, Import, Withdraw, Move, after, after_all, StoodIn, CameIn, at_first, now, later, CameTogether}
+use Rattle.register.specs.Promised.{Act, Import, Withdraw, after, after_all, StoodIn, CameIn, at_first, now, later, CameTogether}
 use Rattle.register.proofs.lists.TableEntries.{Sought, there, missing, sought, entry_there}
 use Rattle.register.proofs.lists.NumberPlace.{entry-at-place, entry-past-end}
 use Rattle.register.proofs.theorems.ImportedTable.{import-refused, import_joins}
 use Rattle.register.proofs.theorems.WithdrawnTable.{withdrawal-refused, withdrawal_raises}
-use Rattle.register.proofs.theorems.MovedTable.{move_keeps}
 
 -- two entries of one thermometer with one serial and one certificate
 record Matches (held e : Entry) : Type 0 where
@@ -122,16 +120,9 @@ withdrawal_from table i serial n e h = by (eqb (withdrawal_refusal table i) 0) r
         let before : Held table i e = own (eqb-true (withdrawal_refusal table i) 0 r) (rw (sym same) at h) in
         rw same at before
 
--- A move changes no entry.
-move_from : (larger table : List Entry) (n : ℕ) (e : Entry) → Held (moved larger table) n e → Held table n e
-move_from larger table n e h =
-    let z : eqb n 0 ≡ false = rw (entry_there (moved larger table) n h.named).1 at h.named in
-    rw ((move_keeps larger table).0 n z) at h
-
 act_from : (table : List Entry) (act : Act) (n : ℕ) (e : Entry) → Held (after table act) n e → From table n e act
 act_from table (Import list) n e h = import_from table list n e h
 act_from table (Withdraw i serial) n e h = kept (Withdraw i serial) (withdrawal_from table i serial n e h)
-act_from table (Move larger) n e h = kept (Move larger) (move_from larger table n e h)
 
 -- ---- any number of acts
 -- What is held after them was held at first, or came since, whatever was held at first.

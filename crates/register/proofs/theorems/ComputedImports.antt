@@ -9,17 +9,17 @@ use Rattle.certificate.specs.declared.soundness.Given.{Given}
 use Rattle.register.specs.Table.{bad_table}
 use Rattle.register.specs.Import.{import_refusal, imported}
 
--- Certificates with every place 0: of gallium, which is good, and by the curve's name, which is none.
-abbrev pub by_name : ℕ → Given
-by_name name = record { law = record { 0 = name }; places = record { a = pos 0; b = pos 0; c = pos 0; d = pos 0; wal = record { 0 = 0 } } }
+-- A certificate of the curve, which is good.
+abbrev pub by_curve : Given
+by_curve = record { law = record { 0 = spelled "curve" }; places = record { a = pos 0; b = pos 0; c = pos 0; d = pos 0; wal = record { 0 = 0 } } }
 
--- No subrange has this certificate's name.
+-- No law has this certificate's name.
 abbrev pub by_none : Given
 by_none = record { law = record { 0 = spelled "none" }; places = record { a = pos 1; b = pos 2; c = pos 3; d = pos 4; wal = record { 0 = 5 } } }
 
 -- The entry of a thermometer with its first certificate, of which none is withdrawn.
 abbrev pub entry_for : ℕ → Entry
-entry_for n = record { number = record { 0 = n }; serial = record { 0 = 1 }; mark = record { 0 = 0 }; certificate = by_name (spelled "ga") }
+entry_for n = record { number = record { 0 = n }; serial = record { 0 = 1 }; mark = record { 0 = 0 }; certificate = by_curve }
 
 abbrev pub five : Entry
 five = entry_for 5
@@ -48,15 +48,3 @@ example_accepted = refl
 pub example_refused : import_refusal (five ∷ spare ∷ []) (nine ∷ eight ∷ []) ≡ 19
 unfolding import_refusal bad_table
 example_refused = refl
-
--- A newer entry by the curve's name is refused by 3, and a table that holds one is bad.
-abbrev pub by_curve : Entry
-by_curve = record { number = record { 0 = 5 }; serial = record { 0 = 2 }; mark = record { 0 = 0 }; certificate = by_name (spelled "curve") }
-
-pub curve_refused : import_refusal (five ∷ []) (by_curve ∷ []) ≡ 3
-unfolding import_refusal bad_table
-curve_refused = refl
-
-pub curve_bad : import_refusal (by_curve ∷ []) [] ≡ 23
-unfolding import_refusal bad_table
-curve_bad = refl

@@ -12,10 +12,8 @@ use Rattle.entry.specs.Entry.{raised}
 use Rattle.examination.specs.Answering.{stated}
 use Rattle.register.specs.Table.{entry_of, put}
 use Rattle.register.specs.Import.{import_rule, import_refusal, placed_all, imported}
-use Rattle.register.specs.Moving.{move_rule, move_refusal, brought_over}
 use Rattle.register.specs.Withdrawal.{withdrawal_rule, withdrawal_refusal, withdrawn}
-use Rattle.register.specs.Promised.{ImportLeaves, WithdrawalLeaves, MoveLeaves}
-use Rattle.register.proofs.theorems.MovedTable.{move-made}
+use Rattle.register.specs.Promised.{ImportLeaves, WithdrawalLeaves}
 
 -- by a rule whose only answer is one table
 module _ (rule : Rule (List Entry)) (next : List Entry) (only : (a : List Entry) → rule.Answer a → a ≡ next) (o : Outcome (List Entry)) where
@@ -37,12 +35,3 @@ pub withdrawal_leaves : WithdrawalLeaves
 unfolding withdrawal_refusal withdrawn
 withdrawal_leaves table n serial answer left =
     leaves (withdrawal_rule table n serial) (put table n (raised (entry_of table n) serial)) (λ a p. p) (record { code = stated answer; answer = left })
-
-pub move_leaves : MoveLeaves
-unfolding move_refusal
-move_leaves larger old answer left h =
-    let (number, table) = leaves (move_rule larger old) (brought_over larger old) (λ a p. p) (record { code = stated answer; answer = left }) h in (
-      number,
-      λ a. (rw a at table) ∙ sym (move-made larger old a),
-      λ r. rw r at table,
-    )

@@ -1,4 +1,4 @@
--- A mark never falls and a serial never falls, whatever is imported, withdrawn and moved.
+-- A mark never falls and a serial never falls, whatever is imported and withdrawn.
 use mathlib.Core.Path.{◌≡◌, refl, ap, subst, ◌∙◌}
 use mathlib.Core.Bool.{Bool, true, false}
 use mathlib.Core.List.{List, [], ◌∷◌}
@@ -12,12 +12,11 @@ use Rattle.entry.specs.Entry.{free, merged, joined, raised}
 use Rattle.register.specs.Table.{entry_of}
 use Rattle.register.specs.Import.{import_refusal, imported}
 use Rattle.register.specs.Withdrawal.{withdrawal_refusal, withdrawn}
-use Rattle.register.specs.Promised.{Act, Import, Withdraw, Move, after, after_all, MarkNeverFalls, SerialNeverFalls}
+use Rattle.register.specs.Promised.{Act, Import, Withdraw, after, after_all, MarkNeverFalls, SerialNeverFalls}
 use Rattle.register.proofs.lists.JoinedEntries.{higher_is, joined-held}
 use Rattle.register.proofs.lists.TableEntries.{Sought, there, missing, sought}
 use Rattle.register.proofs.theorems.ImportedTable.{import-refused, import_joins}
 use Rattle.register.proofs.theorems.WithdrawnTable.{withdrawal-refused, withdrawal_raises}
-use Rattle.register.proofs.theorems.MovedTable.{move_keeps}
 
 -- A count in an entry is none in a free place, and neither merging nor raising lowers it.
 module _ (count : Entry → ℕ) (of_none : count free ≡ 0) (of-merged : (held x : Entry) → count held ≤ count (merged held x)) (of-raised : (held : Entry) (serial : Serial) → count held ≤ count (raised held serial)) where
@@ -63,7 +62,6 @@ module _ (count : Entry → ℕ) (of_none : count free ≡ 0) (of-merged : (held
   act-rises : (table : List Entry) (act : Act) (n : ℕ) → eqb n 0 ≡ false → count (entry_of table n) ≤ count (entry_of (after table act) n)
   act-rises table (Import list) n z = import-rises table list n z
   act-rises table (Withdraw i serial) n z = withdrawal-rises table i serial n
-  act-rises table (Move larger) n z = omega (arith, ap count ((move_keeps larger table).0 n z))
 
   never-falls : (table : List Entry) (acts : List Act) (n : ℕ) → eqb n 0 ≡ false → count (entry_of table n) ≤ count (entry_of (after_all table acts) n)
   never-falls table [] n z = omega arith

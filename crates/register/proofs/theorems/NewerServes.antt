@@ -1,22 +1,25 @@
 -- A newer certificate takes the old one's place.
-use mathlib.Core.Path.{◌≡◌, refl, ap}
+use mathlib.Core.Path.{◌≡◌, refl, ◌∙◌}
 use mathlib.Core.Bool.{Bool, true, false, ◌&&◌, not}
-use mathlib.Core.List.{List, [], ◌∷◌}
+use mathlib.Core.List.{[], ◌∷◌}
 use Prim.Native.Nat.{ℕ, ◌<◌}
 use native.Mathlib.Omega.{arith}
-use borrow.Author.Tests.{ne_eqb, lt-ltb}
+use borrow.Author.Tests.{eq-eqb, ne_eqb, lt-ltb}
 use lib.Dec.{ltb}
 use Rattle.whole.specs.Choice.{if◌then◌else◌}
-use Rattle.quantity.specs.Outcomes.{Follows}
+use Rattle.quantity.specs.Outcomes.{Outcome, Follows}
+use Rattle.law.specs.Answers.{LawAndStep}
+use Rattle.reading.specs.Reading.{read_given}
 use Rattle.entry.specs.declared.entry.Entry.{Entry}
 use Rattle.entry.specs.Entry.{same, is_free, is_live, clash, merged, joined}
 use Rattle.examination.specs.Answering.{read_entry}
 use Rattle.examination.proofs.Readings.{past_20}
 use Rattle.register.specs.Table.{entry_of}
-use Rattle.register.specs.Promised.{Names, serial_of, NewerServes, NewerAccepted}
-use Rattle.register.proofs.lists.TableEntries.{Sought, there, missing, sought}
+use Rattle.register.specs.Import.{import_refusal, imported}
+use Rattle.register.specs.Reading.{ReadThrough}
+use Rattle.register.specs.Promised.{NewerServes}
 use Rattle.register.proofs.lists.JoinedEntries.{higher_is}
-use Rattle.register.proofs.lists.PassedTests.{import-accepted, import-passed}
+use Rattle.register.proofs.lists.PassedTests.{import-accepted}
 use Rattle.register.proofs.theorems.ImportedTable.{import-good, import_joins}
 
 -- ---- an entry of a higher serial than the one that is held
@@ -50,30 +53,30 @@ module _ (held e : Entry) (s : held.serial.0 < e.serial.0) where
           let t : ltb (merged held e).mark.0 (merged held e).serial.0 ≡ true = lt-ltb (merged held e).mark.0 (merged held e).serial.0 above in
           rw (f, t)
 
-pub newer_accepted : NewerAccepted
-newer_accepted table e bad named good room s =
-    import-accepted table (e ∷ []) (record {
-      good_table = bad;
-      all_known = rw good;
-      all_sound = rw good;
-      all_fit = rw named;
-      no_clashes = rw (newer-clash (entry_of table e.number.0) e s);
-      all_find_room = room;
-    })
-
--- a thermometer whose serial is above 0 is there
-serial-there : (list : List Entry) (n : ℕ) → Names n → 0 < serial_of list n → is_free (entry_of list n) ≡ false
-serial-there list n named = by (entry_of list n) (sought list n)
-  where
-    by : (e : Entry) → Sought list n e → 0 < e.serial.0 → is_free e ≡ false
-    by e (there m is) s = rw is named
-    by e (missing is none) s = absurd (omega (arith, ap (λ (x : Entry). x.serial.0) is, s))
-
 pub newer_serves : NewerServes
-newer_serves table list n named made s m own r r0 o h =
-    let held = entry_of table n in
-    let e = entry_of list n in
-    let good = (import-passed table list made).good_table in
-    let k : Follows (read_entry false (joined held e) r r0) o = rw (import-good table list good, import_joins table list n named made) at h in
-    let live = newer-live held e s (serial-there list n named (omega (arith, s))) m own in
-    rw (newer-certificate held e s) at (past_20 (joined held e) r r0 o live k)
+newer_serves table e bad named good room s m own = (made, reads)
+  where
+    n : ℕ
+    n = e.number.0
+
+    held : Entry
+    held = entry_of table n
+
+    made : import_refusal table (e ∷ []) ≡ 0
+    made =
+        import-accepted table (e ∷ []) (record {
+          good_table = bad;
+          all_known = rw good;
+          all_sound = rw good;
+          all_fit = rw named;
+          no_clashes = rw (newer-clash held e s);
+          all_find_room = room;
+        })
+
+    left : entry_of (imported table (e ∷ [])) n ≡ joined held e
+    left = import_joins table (e ∷ []) n named made ∙ rw (eq-eqb n n refl)
+
+    reads : (r r0 : ℕ) (o : Outcome LawAndStep) → ReadThrough (imported table (e ∷ [])) n r r0 o → Follows (read_given e.certificate r r0) o
+    reads r r0 o h =
+        let k : Follows (read_entry false (joined held e) r r0) o = rw (import-good table (e ∷ []) bad, left) at h in
+        rw (newer-certificate held e s) at (past_20 (joined held e) r r0 o (newer-live held e s named m own) k)

@@ -9,9 +9,8 @@ use Rattle.examination.specs.Answering.{stated}
 use Rattle.examination.proofs.Unique as examination
 use Rattle.register.specs.Table.{entry_of, bad_table}
 use Rattle.register.specs.Import.{import_rule}
-use Rattle.register.specs.Moving.{move_rule}
 use Rattle.register.specs.Withdrawal.{withdrawal_rule}
-use Rattle.register.specs.Promised.{OneImport, OneMove, OneWithdrawal, OneLookup, OneReading}
+use Rattle.register.specs.Promised.{OneImport, OneWithdrawal, OneReading}
 
 -- by a rule whose answer is one table
 one_change : (rule : Rule (List Entry)) → ((a b : List Entry) → rule.Answer a → rule.Answer b → a ≡ b) → (x y : Change) (left other : List Entry)
@@ -23,14 +22,8 @@ one_change rule one x y left other h k =
 pub one_import : OneImport
 one_import table list = one_change (import_rule table list) (λ a b p q. p ∙ sym q)
 
-pub one_move : OneMove
-one_move larger old = one_change (move_rule larger old) (λ a b p q. p ∙ sym q)
-
 pub one_withdrawal : OneWithdrawal
 one_withdrawal table n serial = one_change (withdrawal_rule table n serial) (λ a b p q. p ∙ sym q)
-
-pub one_lookup : OneLookup
-one_lookup table n x y left other h k = (examination.one_lookup (bad_table table) (entry_of table n) x y h.0 k.0, h.1 ∙ sym k.1)
 
 pub one_reading : OneReading
 one_reading table n r r0 x y h k = examination.one_reading (bad_table table) (entry_of table n) r r0 x y h k

@@ -3,7 +3,7 @@ use mathlib.Core.Path.{◌≡◌}
 use mathlib.Core.List.{List, [], ◌∷◌}
 use Prim.Native.Nat.{ℕ, ◌+◌, ◌<◌, ◌^◌, min}
 use lib.Dec.{eqb}
-use lib.ListN.{take, set}
+use lib.ListN.{take}
 use contract.Lifetimes.{Lfts}
 use denote.Triple.Clauses.{AtExit}
 use denote.Triple.Entry.{Args}
@@ -11,14 +11,13 @@ use Rattle.law.specs.Answers.{stated as read_as}
 use Rattle.entry.specs.Entry.{free, joined, raised}
 use Rattle.examination.specs.Testing.{nothing_seen, seen, nothing_noted, noted}
 use Rattle.quantity.specs.Outcomes.{number_given, Follows}
-use Rattle.examination.specs.Answering.{stated, import_tests, withdrawal_tests, move_tests, lookup_entry, found, read_entry}
+use Rattle.examination.specs.Answering.{stated, import_tests, withdrawal_tests, read_entry}
 use Rattle.register.specs.Table.{first_at, entry_of, put, bad_table, places}
 use Rattle.register.specs.Import.{Tested, placed_all, ImportedAs}
-use Rattle.register.specs.Moving.{copied, MovedAs}
 use Rattle.register.specs.Withdrawal.{WithdrawnAs}
-use Rattle.register.specs.Reading.{LookedUp, ReadThrough}
+use Rattle.register.specs.Reading.{ReadThrough}
 use Rattle.register.proofs.walks.ProgramLogic.{Slot, now}
-use Rattle.register.proofs.walks.PlainTypes.{BoolType, ChangeType, EntryType, LookupAnswerType, NanoohmType, NotedType, PlainType, ReadingAnswerType, SeenType, SerialType, ThermometerType, UnitType, WordType}
+use Rattle.register.proofs.walks.PlainTypes.{BoolType, ChangeType, EntryType, NanoohmType, NotedType, PlainType, ReadingAnswerType, SeenType, SerialType, ThermometerType, UnitType, WordType}
 use Rattle.register.proofs.walks.FourEntries.{AfterType, FourEntriesType}
 use Rattle.register.proofs.walks.TableFunctions.{TableFunction, asked, changed_at, nothing_asked, read_at, taking}
 
@@ -60,14 +59,8 @@ ImportAnswer = says (SeenType ∷ NotedType ∷ []) ChangeType (λ κs (s, (l, _
 abbrev pub WithdrawalAnswer : TableFunction 0 []
 WithdrawalAnswer = says (SeenType ∷ EntryType ∷ []) ChangeType (λ κs (s, (held, _)) r end. stated r ≡ number_given (withdrawal_tests s.bad held))
 
-abbrev pub MoveAnswer : TableFunction 0 []
-MoveAnswer = says (SeenType ∷ SeenType ∷ WordType ∷ WordType ∷ []) ChangeType (λ κs (old, (table, (old_places, (new_places, _)))) r end. stated r ≡ number_given (move_tests old.bad old_places new_places table.places))
-
 abbrev pub Accepted : TableFunction 0 []
 Accepted = says (ChangeType ∷ []) BoolType (λ κs (change, _) r end. r ≡ eqb (stated change) 0)
-
-abbrev pub LookupAnswer : TableFunction 0 []
-LookupAnswer = says (SeenType ∷ EntryType ∷ []) LookupAnswerType (λ κs (s, (held, _)) r end. Follows (lookup_entry s.bad held) (found r))
 
 abbrev pub ReadingAnswer : TableFunction 0 []
 ReadingAnswer = says (SeenType ∷ EntryType ∷ NanoohmType ∷ NanoohmType ∷ []) ReadingAnswerType (λ κs (s, (held, (r₁, (r₀, _)))) r end. Follows (read_entry s.bad held r₁.0 r₀.0) (read_as r))
@@ -91,8 +84,8 @@ ReadArray = says (FourEntriesType ∷ ThermometerType ∷ NanoohmType ∷ Nanooh
 abbrev pub Find : TableFunction 1 (read_at 0 tt ∷ [])
 Find = says (WordType ∷ []) WordType (λ κs (entries, (number, _)) r end. r ≡ first_at (now entries) number)
 
-abbrev pub HeldOf : TableFunction 1 (read_at 0 tt ∷ [])
-HeldOf = says (WordType ∷ []) EntryType (λ κs (table, (number, _)) r end. r ≡ entry_of (now table) number)
+abbrev pub Lookup : TableFunction 1 (read_at 0 tt ∷ [])
+Lookup = says (WordType ∷ []) EntryType (λ κs (table, (number, _)) r end. r ≡ entry_of (now table) number)
 
 abbrev pub Examine : TableFunction 1 (read_at 0 tt ∷ [])
 Examine = says [] SeenType (λ κs (table, _) r end. (r.bad ≡ bad_table (now table)) × (r.places ≡ places (now table)))
@@ -108,24 +101,12 @@ Check = says (WordType ∷ []) NotedType (λ κs (table, (list, (left, _))) r en
 abbrev pub Put : TableFunction 1 (changed_at 0 tt ∷ [])
 Put = says (WordType ∷ EntryType ∷ []) UnitType (λ κs (table, (number, (e, _))) r (left, _). now left ≡ put (now table) number e)
 
-abbrev pub Lookup : TableFunction 1 (changed_at 0 tt ∷ [])
-Lookup = says (ThermometerType ∷ []) LookupAnswerType (λ κs (table, (number, _)) r (left, _). LookedUp (now table) number.0 r (now left))
-
 abbrev pub Withdraw : TableFunction 1 (changed_at 0 tt ∷ [])
 Withdraw = says (ThermometerType ∷ SerialType ∷ []) ChangeType (λ κs (table, (number, (serial, _))) r (left, _). WithdrawnAs (now table) number.0 serial r (now left))
 
-abbrev pub SetPlace : TableFunction 1 (changed_at 0 tt ∷ [])
-SetPlace = says (WordType ∷ EntryType ∷ []) UnitType (λ κs (table, (at, (e, _))) r (left, _). now left ≡ set (now table) at e)
-
--- ---- of a table that is changed by a list or another table that is read
+-- ---- of a table that is changed by a list that is read
 abbrev pub PlaceAll : TableFunction 2 (changed_at 0 tt ∷ read_at 1 tt ∷ [])
 PlaceAll = says [] UnitType (λ κs (table, (list, _)) r (left, _). now left ≡ placed_all (now table) (now list))
 
 abbrev pub Import : TableFunction 2 (changed_at 0 tt ∷ read_at 1 tt ∷ [])
 Import = says [] ChangeType (λ κs (table, (list, _)) r (left, _). ImportedAs (now table) (now list) r (now left))
-
-abbrev pub CopyAll : TableFunction 2 (changed_at 0 tt ∷ read_at 1 tt ∷ [])
-CopyAll = says [] UnitType (λ κs (table, (old, _)) r (left, _). now left ≡ copied (now table) (now old))
-
-abbrev pub MoveOver : TableFunction 2 (changed_at 0 tt ∷ read_at 1 tt ∷ [])
-MoveOver = says [] ChangeType (λ κs (table, (old, _)) r (left, _). MovedAs (now table) (now old) r (now left))

@@ -23,9 +23,9 @@ rest_of_body (exit n) = skip
 rest_of_body return = skip
 rest_of_body (call f xs d) = skip
 
-abbrev pub rest-after : ℕ → Body → Body
-rest-after zero b = b
-rest-after (suc n) b = rest-after n (rest_of_body b)
+abbrev pub rest_after : ℕ → Body → Body
+rest_after zero b = b
+rest_after (suc n) b = rest_after n (rest_of_body b)
 
 -- a function's locals at their addresses
 abbrev pub locals_at : List Local → List ℕ → List (Ty × ℕ)
@@ -152,8 +152,8 @@ resumes t 𝓣 E b Post = exec t 𝓣.C 𝓣.Λ E b (at_ret E Post)
 module _ {M : Type 1} {𝓤 : Ura M} {𝓛 : Logic 𝓤} {K : Type 0} {Γ : List (Item 𝓤)} {E : Env 𝓤 𝓛.H} where
   open 𝓛 use {H}
 
-  pub held-at : K → (n : ℕ) {share : Share} {i : ℕ} {v : Val} → nth 𝓛 n Γ ≡ ‵ (fat share (spot_of 𝓤 H E i).0 (spot_of 𝓤 H E i).1 (spot_of 𝓤 H E i).2 v) → Opd K 𝓛 Γ E (copy (place i [])) v
-  held-at t n e = load t (from t (stop t)) (look t n e)
+  pub held_at : K → (n : ℕ) {share : Share} {i : ℕ} {v : Val} → nth 𝓛 n Γ ≡ ‵ (fat share (spot_of 𝓤 H E i).0 (spot_of 𝓤 H E i).1 (spot_of 𝓤 H E i).2 v) → Opd K 𝓛 Γ E (copy (place i [])) v
+  held_at t n e = load t (from t (stop t)) (look t n e)
 
   module _ {C : Calls 𝓤 H} {Λ : Loops 𝓤 H} {q : Post 𝓤 H} {i : ℕ} {v : Val} {Γ' : List (Item 𝓤)} where
     pub sets : K → {rv : RValue} {rest : Body} → Rv K 𝓛 Γ E rv v → Writes K 𝓛 Γ (spot_of 𝓤 H E i).0 (spot_of 𝓤 H E i).1 (spot_of 𝓤 H E i).2 v Γ' → Step K 𝓛 Γ' (runs C Λ E rest q) Γ (runs C Λ E (seq (assign (place i []) rv) rest) q)

@@ -31,8 +31,6 @@ use Rattle.examination.specs.contracts.testing.Noted as noted
 use Rattle.examination.proofs.testing.Noted.TheLaws as noted'
 use Rattle.examination.specs.contracts.answering.Change as change
 use Rattle.examination.proofs.answering.Change.TheLaws as change'
-use Rattle.examination.specs.contracts.answering.LookupAnswer as looked
-use Rattle.examination.proofs.answering.LookupAnswer.TheLaws as looked'
 
 pub record PlainType : Type 2 where
   pub row : RattleType
@@ -82,9 +80,6 @@ NotedType = record { row = noted.the_row; ty = noted'.mir; val = noted'.lowered;
 
 abbrev pub ChangeType : PlainType
 ChangeType = record { row = change.the_row; ty = change'.mir; val = change'.lowered; tells = (change'.lowers).val_is; makes = λ 𝓛. enums.makes change.the_type change'.the_plain 𝓛; lawful = λ 𝓛. enums.lawful change.the_type change'.the_laws 𝓛 tt; last = λ x. tt; silent = λ x w. refl }
-
-abbrev pub LookupAnswerType : PlainType
-LookupAnswerType = record { row = looked.the_row; ty = looked'.mir; val = looked'.lowered; tells = (looked'.lowers).val_is; makes = λ 𝓛. enums.makes looked.the_type looked'.the_plain 𝓛; lawful = λ 𝓛. enums.lawful looked.the_type looked'.the_laws 𝓛 tt; last = λ x. tt; silent = λ x w. refl }
 
 abbrev pub ReadingAnswerType : PlainType
 ReadingAnswerType = record { row = answer.the_row; ty = answer'.mir; val = answer'.lowered; tells = (answer'.lowers).val_is; makes = λ 𝓛. enums.makes answer.the_type answer'.the_plain 𝓛; lawful = λ 𝓛. enums.lawful answer.the_type answer'.the_laws 𝓛 tt; last = λ x. tt; silent = λ x w. refl }

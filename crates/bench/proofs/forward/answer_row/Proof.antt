@@ -1,5 +1,5 @@
 -- `bench::forward::answer_row` meets its contract: what is written is the answer to the row's step.
-use mathlib.Core.Path.{◌≡◌, refl, sym, ap, ◌∙◌, subst}
+use mathlib.Core.Path.{◌≡◌, sym, ap, ◌∙◌, subst}
 use mathlib.Core.List.{List, [], ◌∷◌, ◌++◌, append_assoc, append-nil}
 use native.Mathlib.Omega.{arith}
 use Prim.Native.Nat.{ℕ}
@@ -80,7 +80,7 @@ returns c =
     let s = start asked in
     let found = u.found.given.0.0 in
     let line = s.args.line.now in
-    placed-answered steps line s.args.out.now put.place-ratio.new.1.1.0 put.place-ratio.result s.pre.0 (λ o. refl) s.args.row.names (names s) (stated_forward (At found)).answer (follows asked (At found) u.found.given.1)
+    placed-answered steps line s.args.out.now put.place-ratio.new.1.1.0 put.place-ratio.result s.pre.0 s.args.row.names (names s) (stated_forward (At found)).answer (follows asked (At found) u.found.given.1)
     (subst (λ (t : List ℕ). PlacedAs 0 t s.args.out.now put.place-ratio.new.1.1.0 put.place-ratio.result) (ratio-text (take s.args.row.names line) (decimal found.ratio.0)) put.place-ratio.ensures)
 
 same-length-2 : tie.Need-same-length-2
@@ -95,7 +95,7 @@ returns-2 c =
     let s = start asked in
     let why = u.why.given.0.0 in
     let line = s.args.line.now in
-    placed-refused steps line s.args.out.now put.place-refused.new.1.1.1.0 put.place-refused.result s.pre.0 (λ o. refl) s.args.row.names (names s) no_ratio why (follows asked (Refused why) u.why.given.1)
+    placed-refused steps line s.args.out.now put.place-refused.new.1.1.1.0 put.place-refused.result s.pre.0 s.args.row.names (names s) no_ratio why (follows asked (Refused why) u.why.given.1)
     (subst (λ (n : ℕ). PlacedAs n (refused_text (take s.args.row.names line) (ascii ",") n) s.args.out.now put.place-refused.new.1.1.1.0 put.place-refused.result) numbered.number.ensures put.place-refused.ensures)
 
 pub answer-row-spec : {M : Type 1} → statement M

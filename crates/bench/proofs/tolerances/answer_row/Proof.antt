@@ -1,5 +1,5 @@
 -- `bench::tolerances::answer_row` meets its contract: what is written is the answer to the row's test.
-use mathlib.Core.Path.{◌≡◌, refl, sym, ap, ◌∙◌, subst}
+use mathlib.Core.Path.{◌≡◌, sym, ap, ◌∙◌, subst}
 use mathlib.Core.List.{List, [], ◌∷◌, ◌++◌, append_assoc, append-nil}
 use native.Mathlib.Omega.{arith}
 use Prim.Native.Nat.{ℕ}
@@ -86,7 +86,7 @@ returns c =
     let s = start asked in
     let x = u.x.given.0.0 in
     let line = s.args.line.now in
-    placed-answered tolerances line s.args.out.now put.place-result.new.1.1.1.0 put.place-result.result s.pre.0 (λ o. refl) s.args.row.names (names s) (stated (Tested x)).answer (follows asked (Tested x) u.x.given.1)
+    placed-answered tolerances line s.args.out.now put.place-result.new.1.1.1.0 put.place-result.result s.pre.0 s.args.row.names (names s) (stated (Tested x)).answer (follows asked (Tested x) u.x.given.1)
     (subst (λ (t : List ℕ). PlacedAs 0 t s.args.out.now put.place-result.new.1.1.1.0 put.place-result.result)
     (ap (λ (z : ℤ). take s.args.row.names line ++ (result_word x.passes ++ ascii ",") ++ (signed_decimal z ++ ascii ",") ++ ascii "0\r\n") (to_z-of_z (known put.before))
     ∙ result-text (take s.args.row.names line) (result_word x.passes) (signed_decimal x.error)) put.place-result.ensures)
@@ -103,7 +103,7 @@ returns-2 c =
     let s = start asked in
     let why = u.why.given.0.0 in
     let line = s.args.line.now in
-    placed-refused tolerances line s.args.out.now put.place-refused.new.1.1.1.0 put.place-refused.result s.pre.0 (λ o. refl) s.args.row.names (names s) no_result why (follows asked (Refused why) u.why.given.1)
+    placed-refused tolerances line s.args.out.now put.place-refused.new.1.1.1.0 put.place-refused.result s.pre.0 s.args.row.names (names s) no_result why (follows asked (Refused why) u.why.given.1)
     (subst (λ (n : ℕ). PlacedAs n (refused_text (take s.args.row.names line) (ascii ",,") n) s.args.out.now put.place-refused.new.1.1.1.0 put.place-refused.result) numbered.number.ensures put.place-refused.ensures)
 
 pub answer-row-spec : {M : Type 1} → statement M

@@ -1,6 +1,6 @@
 -- `line::readings::answer_row` meets its contract: what is written is the answer to what the row reads.
-use mathlib.Core.Path.{◌≡◌, refl, sym, ap, ◌∙◌, subst}
-use mathlib.Core.List.{List}
+use mathlib.Core.Path.{◌≡◌, sym, ap, ◌∙◌, subst}
+use mathlib.Core.List.{List, [], ◌∷◌, ◌++◌, append_assoc, append-nil}
 use native.Mathlib.Omega.{arith}
 use Prim.Native.Nat.{ℕ}
 use lib.ListN.{take}
@@ -16,10 +16,9 @@ use Rattle.text.proofs.Names.{Repeated, repeated}
 use Rattle.row.specs.declared.readings.ReadingRow.{ReadingRow}
 use Rattle.row.specs.Readings.{columns}
 use Rattle.line.specs.Readings.{readings}
-use Rattle.line.specs.Writing.{refused_text}
+use Rattle.line.specs.Writing.{commaed, read_text, refused_text}
 use Rattle.line.specs.Lent.{PlacedAs}
 use Rattle.line.proofs.Answers.{placed-answered, placed-refused}
-use Rattle.line.proofs.Texts.{read-text}
 use borrow.Author.Rules.{rules}
 use Rattle.line.proofs.readings.answer_row.Statement.{statement}
 use Rattle.line.proofs.readings.answer_row.Tie as tie
@@ -37,17 +36,23 @@ reads c x e =
     subst (λ (row : ReadingRow). Follows (read_given row.certificate row.r.0 row.r0.0) (stated x)) (start c).requires.1
     (subst (λ (x : ReadingAnswer). Follows (read_given (start c).args.row.certificate (start c).args.row.r.0 (start c).args.row.r0.0) (stated x)) e c.read.ensures)
 
+-- the step's column, and the code
+read-text : (names t : List ℕ) → read_text names t ≡ names ++ commaed (t ∷ []) ++ ascii "0\r\n"
+read-text names t =
+    sym (append_assoc (names ++ t) (ascii ",") (ascii "0\r\n"))
+    ∙ ap (λ (l : List ℕ). l ++ ascii "0\r\n") (append_assoc names t (ascii ",") ∙ ap (λ (l : List ℕ). names ++ l) (sym (append-nil (t ++ ascii ","))))
+
 read-requires : tie.Need-read-requires
 read-requires c κs = search rules
 
 enum-known-reading : tie.Need-enum-known-reading
 enum-known-reading c = search rules
 
-slice-aggregate-place-step : tie.Need-slice-aggregate-place-step
-slice-aggregate-place-step c = (names (start c.before.before.before.before)).long
+slice-aggregate-put-step : tie.Need-slice-aggregate-put-step
+slice-aggregate-put-step c = (names (start c.before.before.before.before)).long
 
-place-step-requires : tie.Need-place-step-requires
-place-step-requires c κs = (names (start c.before.before.before.before.before)).short
+put-step-requires : tie.Need-put-step-requires
+put-step-requires c κs = (names (start c.before.before.before.before.before)).short
 
 enum-known-why : tie.Need-enum-known-why
 enum-known-why c = search rules
@@ -75,8 +80,8 @@ returns c =
     let s = start read in
     let reading = u.reading.given.0.0 in
     let line = s.args.line.now in
-    placed-answered readings line s.args.out.now put.place-step.new.1.1.0 put.place-step.result s.pre.0 (λ o. refl) s.args.row.names (names s) (stated (Read reading)).answer (reads read (Read reading) u.reading.given.1)
-    (subst (λ (t : List ℕ). PlacedAs 0 t s.args.out.now put.place-step.new.1.1.0 put.place-step.result) (read-text (take s.args.row.names line) (signed_decimal reading.step.0)) put.place-step.ensures)
+    placed-answered readings line s.args.out.now put.put_step.new.1.1.0 put.put_step.result s.pre.0 s.args.row.names (names s) (stated (Read reading)).answer (reads read (Read reading) u.reading.given.1)
+    (subst (λ (t : List ℕ). PlacedAs 0 t s.args.out.now put.put_step.new.1.1.0 put.put_step.result) (read-text (take s.args.row.names line) (signed_decimal reading.step.0)) put.put_step.ensures)
 
 same-length-2 : tie.Need-same-length-2
 same-length-2 c = search rules
@@ -90,7 +95,7 @@ returns-2 c =
     let s = start read in
     let why = u.why.given.0.0 in
     let line = s.args.line.now in
-    placed-refused readings line s.args.out.now put.place-refused.new.1.1.1.0 put.place-refused.result s.pre.0 (λ o. refl) s.args.row.names (names s) no_step why (reads read (Refused why) u.why.given.1)
+    placed-refused readings line s.args.out.now put.place-refused.new.1.1.1.0 put.place-refused.result s.pre.0 s.args.row.names (names s) no_step why (reads read (Refused why) u.why.given.1)
     (subst (λ (n : ℕ). PlacedAs n (refused_text (take s.args.row.names line) (ascii ",") n) s.args.out.now put.place-refused.new.1.1.1.0 put.place-refused.result) numbered.number.ensures put.place-refused.ensures)
 
 pub answer-row-spec : {M : Type 1} → statement M
@@ -99,8 +104,8 @@ answer-row-spec =
     (tie.spec
     read-requires
     enum-known-reading
-    slice-aggregate-place-step
-    place-step-requires
+    slice-aggregate-put-step
+    put-step-requires
     enum-known-why
     slice-aggregate-place-refused
     slice-aggregate-place-refused-2

@@ -15,7 +15,7 @@ use Rattle.list.specs.declared.state.State.{State}
 use Rattle.list.specs.Tallies.{tally_of, with_line}
 use Rattle.list.specs.Feeding.{line_of}
 use Rattle.list.specs.Replies.{RepliedAs}
-use Rattle.list.proofs.Feeds.{Written, replied-written, replied-short, last-held, some-held, held-begun, held-full, held-at, standing_held}
+use Rattle.list.proofs.Feeds.{Written, replied-written, replied-short, last-held, some-held, held-begun, held-full, held_at, standing_held}
 use Rattle.list.proofs.feeding.feed_held.Statement.{statement}
 use Rattle.list.proofs.feeding.feed_held.Tie as tie
 
@@ -190,7 +190,7 @@ returns-3 c =
     let a = added r in
     let f = found a in
     c.before.before.feed-on.ensures (state f) (out f)
-    (rw (tally-is counted) (held-at (state f) (chunk f) (out f) (end f) (held a) (count a) (ends f) (line-is a) (more (ended r)) (left r) r.reply-to.result (written e)))
+    (rw (tally-is counted) (held_at (state f) (chunk f) (out f) (end f) (held a) (count a) (ends f) (line-is a) (more (ended r)) (left r) r.reply-to.result (written e)))
 
 pub feed-held-spec : {M : Type 1} → statement M
 feed-held-spec =

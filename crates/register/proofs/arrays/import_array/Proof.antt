@@ -14,7 +14,7 @@ use Rattle.register.proofs.walks.ProgramLogic.{ !, Room, SProp, Tables, Triple, 
 use Rattle.register.proofs.walks.PlainTypes.{ChangeType, EntryType, Spelled, WordType, typed}
 use Rattle.register.proofs.walks.FourEntries.{AfterType, FourEntriesType, closes-four, four_fit, four_long, opens-four, take_min}
 use Rattle.register.proofs.walks.RowLending.{lends-row-shared, row-back-shared, row_cut, row-joined, row-rest}
-use Rattle.register.proofs.walks.Locals.{frees_locals, held-at, lands-in, sets}
+use Rattle.register.proofs.walks.Locals.{frees_locals, held_at, lands-in, sets}
 use Rattle.register.proofs.walks.TableFunctions.{contract-of}
 use Rattle.register.proofs.walks.Functions.{AtMostFour, Import, ImportArray, WithAnswer}
 use Rattle.register.proofs.walks.CallRules.{calls-by-value, calls-mut-beside}
@@ -51,27 +51,27 @@ module _ {M : Type 1} {𝓤 : Ura M} (𝓛 : Logic 𝓤) (𝓣 : Tables 𝓤 �
       alloc1 ! (λ l₀. alloc1 ! (λ l₁. alloc1 ! (λ l₂. alloc1 ! (λ l₃. alloc1 ! (λ l₄. alloc1 ! (λ l₅. alloc1 ! (λ l₆. alloc1 ! (λ l₇. alloc1 ! (λ l₈. alloc1 ! (λ l₉. alloc1 ! (λ l₁₀. alloc1 ! (λ l₁₁. alloc1 ! (λ l₁₂. alloc0 ! $ params1 ! $
       pass1 ! (init ! 22 refl (typed 𝓛 FourEntriesType ys g-ys).0) $ pass1 ! (init ! 20 refl (typed 𝓛 FourEntriesType xs g-xs).0) $ pass1 ! (init ! 18 refl (typed 𝓛 WordType count g-count).0) $ pass0 ! $
       -- [the last local; …; _0]
-      sets ! (of_opd ! (held-at ! 20 refl)) (init ! 16 refl (typed 𝓛 FourEntriesType xs g-xs).0) $
-      sets ! (of_opd ! (held-at ! 22 refl)) (init ! 14 refl (typed 𝓛 FourEntriesType ys g-ys).0) $
-      calls-by-value ! (fm_of 𝓤 H 𝓛.laws 𝓣) AtMostFour known-at-most-four (count, tt) (g-count, tt) tt (and_then ! (held-at ! 19 refl) (no_more !)) (λ m _ h₀ g-m.
+      sets ! (of_opd ! (held_at ! 20 refl)) (init ! 16 refl (typed 𝓛 FourEntriesType xs g-xs).0) $
+      sets ! (of_opd ! (held_at ! 22 refl)) (init ! 14 refl (typed 𝓛 FourEntriesType ys g-ys).0) $
+      calls-by-value ! (fm_of 𝓤 H 𝓛.laws 𝓣) AtMostFour known-at-most-four (count, tt) (g-count, tt) tt (and_then ! (held_at ! 19 refl) (no_more !)) (λ m _ h₀ g-m.
       lands-in ! (init ! 12 refl (typed 𝓛 WordType m g-m).0) $
       sets ! (addr ! (from ! (stop !))) (init ! 8 refl (tt, tt)) $
-      sets ! (agg ! (and_then ! (held-at ! 8 refl) (and_then ! (lit ! tt) (no_more !)))) (init ! 6 refl (tt, (tt, (record { fits = lit< tt }, tt)))) $
+      sets ! (agg ! (and_then ! (held_at ! 8 refl) (and_then ! (lit ! tt) (no_more !)))) (init ! 6 refl (tt, (tt, (record { fits = lit< tt }, tt)))) $
       rewrite ! 6 (λ (j : ℕ). ‵ (fat full_share (slice_ty (ty_ref erased mut (pointee EntryType.row.written))) l₉ 0 (slice_val (l₅, 0) j))) (sym (four_long ys g-ys)) refl $
       sets ! (addr ! (from ! (stop !))) (init ! 4 refl (tt, tt)) $
-      sets ! (agg ! (and_then ! (held-at ! 4 refl) (and_then ! (held-at ! 12 refl) (no_more !)))) (init ! 2 refl (tt, (tt, (record { fits = g-m.1 }, tt)))) $
+      sets ! (agg ! (and_then ! (held_at ! 4 refl) (and_then ! (held_at ! 12 refl) (no_more !)))) (init ! 2 refl (tt, (tt, (record { fits = g-m.1 }, tt)))) $
       rewrite ! 2 (λ (j : ℕ). ‵ (fat full_share (slice_ty (ty_ref erased imm (pointee EntryType.row.written))) l₁₁ 0 (slice_val (l₄, 0) j))) (sym (taken-long xs count g-xs m h₀)) refl $
       move ! (16 ∷ []) $ opens-four ! l₄ xs g-xs $
       use1 𝓛 (‵ (row EntryType.row full_share (take m xs) l₄ 0) ⊛ ‵ (row-rest EntryType.row xs m l₄ 0)) (row_cut EntryType.row 𝓛 xs m l₄ 0) $ split ! $
       lends-row-shared ! tt (named 1) EntryType.row (take m xs) l₄ 0 (taken-fit xs count g-xs m h₀) (λ β δ.
       move ! (18 ∷ []) $ opens-four ! l₅ ys g-ys $
-      calls-mut-beside ! (fm_of 𝓤 H 𝓛.laws 𝓣) Import known-import' l₅ 0 ys (four_fit ys (four_long ys g-ys)) (named 1) (β ∷ []) full_share l₄ 0 δ (take m xs) tt tt (λ α ε. tt) (λ α ε. (and_then ! (held-at ! 11 refl) (and_then ! (held-at ! 7 refl) (no_more !)))) (λ α ε c zs _ lz h g-c.
+      calls-mut-beside ! (fm_of 𝓤 H 𝓛.laws 𝓣) Import known-import' l₅ 0 ys (four_fit ys (four_long ys g-ys)) (named 1) (β ∷ []) full_share l₄ 0 δ (take m xs) tt tt (λ α ε. tt) (λ α ε. (and_then ! (held_at ! 11 refl) (and_then ! (held_at ! 7 refl) (no_more !)))) (λ α ε c zs _ lz h g-c.
       lands-in ! (init ! 15 refl (typed 𝓛 ChangeType c g-c).0) $
       move ! (1 ∷ 3 ∷ []) $ row-back-shared ! tt EntryType.row (take m xs) l₄ 0 $ move ! (2 ∷ []) $ drop ! $ move ! (0 ∷ 2 ∷ []) $
       use2 𝓛 (‵ (row EntryType.row full_share xs l₄ 0)) (row-joined EntryType.row 𝓛 xs m l₄ 0) $
       closes-four ! l₄ xs (four_long xs g-xs) (λ g-list. move ! (1 ∷ []) $ closes-four ! l₅ zs (lz ∙ four_long ys g-ys) (λ g-zs.
-      sets ! (of_opd ! (held-at ! 0 refl)) (init ! 2 refl (typed 𝓛 FourEntriesType zs g-zs).0) $
-      calls-by-value ! (fm_of 𝓤 H 𝓛.laws 𝓣) WithAnswer known-with-answer (zs, (c, tt)) (g-zs, (g-c, tt)) tt (and_then ! (held-at ! 3 refl) (and_then ! (held-at ! 13 refl) (no_more !))) (λ r _ h₂ g-r.
+      sets ! (of_opd ! (held_at ! 0 refl)) (init ! 2 refl (typed 𝓛 FourEntriesType zs g-zs).0) $
+      calls-by-value ! (fm_of 𝓤 H 𝓛.laws 𝓣) WithAnswer known-with-answer (zs, (c, tt)) (g-zs, (g-c, tt)) tt (and_then ! (held_at ! 3 refl) (and_then ! (held_at ! 13 refl) (no_more !))) (λ r _ h₂ g-r.
       lands-in ! (init ! 24 refl (typed 𝓛 AfterType r g-r).0) $
       returns ! (look ! 24 refl) $ move ! (2 ∷ 3 ∷ 4 ∷ 5 ∷ 6 ∷ 7 ∷ 8 ∷ 9 ∷ 10 ∷ 11 ∷ 12 ∷ 13 ∷ 14 ∷ 15 ∷ 0 ∷ 16 ∷ 1 ∷ []) $ frees_locals ! 0 refl $
       by ! (values-left 𝓛 ImportArray (ys, (xs, (count, tt))) r g-r (λ e. subst (λ (list : List Entry). ImportedAs ys list r.change r.table) (taken-are xs count g-xs m h₀) (subst (λ (change : Change). ImportedAs ys (take m xs) change r.table) (sym h₂.1) (subst (λ (left : List Entry). ImportedAs ys (take m xs) c left) (sym h₂.0) h)))))))))))))))))))))))

@@ -12,7 +12,7 @@ use Rattle.register.proofs.lists.RefusalFound.{import-kept, import-made, import-
 use Rattle.register.proofs.walks.ProgramLogic.{ !, GName, Lft, Room, SProp, Share, Tables, Triple, Ura, Val, WpFn, ◌$◌, ◌∵◌, addr, agg, alloc0, alloc1, and_then, branches, by, cited, closes_slice, ent, enter, entered, first, fld, flft, fm_of, from, hop, init, load, look, look_in, move, named, no_more, of_opd, only, opens_slice, params1, pass0, pass1, qed, returns, row, skips, stop, sub, tables, tables_of, whole, yes, ‵, ⋆}
 use Rattle.register.proofs.walks.PlainTypes.{BoolType, ChangeType, EntryType, NotedType, SeenType, Spelled, UnitType, seen_places_spelled, typed}
 use Rattle.register.proofs.walks.RowLending.{slice_words}
-use Rattle.register.proofs.walks.Locals.{frees_locals, held-at, lands-in, lands-in-last, locals_at, resumes, sets}
+use Rattle.register.proofs.walks.Locals.{frees_locals, held_at, lands-in, lands-in-last, locals_at, resumes, sets}
 use Rattle.register.proofs.walks.TableFunctions.{contract-of}
 use Rattle.register.proofs.walks.Functions.{Accepted, Check, Examine, Import, ImportAnswer, PlaceAll}
 use Rattle.register.proofs.walks.CallRules.{SharedSlice, calls-by-value, calls-lent, calls-lent-beside, calls-mut-beside-last}
@@ -41,30 +41,30 @@ module _ {M : Type 1} {𝓤 : Ura M} (𝓛 : Logic 𝓤) (𝓣 : Tables 𝓤 �
       pass1 ! (init ! 24 refl (tt, (tt, (record { fits = gn.0 }, tt)))) $ pass1 ! (init ! 22 refl (tt, (tt, (record { fits = gm.0 }, tt)))) $ pass0 ! $ move ! (28 ∷ 29 ∷ 30 ∷ 31 ∷ 32 ∷ []) $ opens_slice ! tt EntryType.row ys b o $
       -- [the table's row; its open borrow; its last list twice; the list's token; what the list owns; the last local; …; _0]
       sets ! (addr ! (from ! (fld ! refl (hop ! (look_in ! 30 (sub ! 0 refl (whole !))) (stop !))))) (init ! 20 refl (tt, tt)) $
-      sets ! (agg ! (and_then ! (held-at ! 20 refl) (and_then ! (load ! (from ! (fld ! refl (stop !))) (look_in ! 30 (sub ! 1 refl (whole !)))) (no_more !)))) (init ! 18 refl (tt, (tt, (record { fits = gn.0 }, tt)))) $
-      calls-lent ! (fm_of 𝓤 H 𝓛.laws 𝓣) Examine known-examine b o ys gn tt tt (λ α δ. tt) (λ α δ. (and_then ! (held-at ! 20 refl) (no_more !))) (λ α δ s _ h g-s.
+      sets ! (agg ! (and_then ! (held_at ! 20 refl) (and_then ! (load ! (from ! (fld ! refl (stop !))) (look_in ! 30 (sub ! 1 refl (whole !)))) (no_more !)))) (init ! 18 refl (tt, (tt, (record { fits = gn.0 }, tt)))) $
+      calls-lent ! (fm_of 𝓤 H 𝓛.laws 𝓣) Examine known-examine b o ys gn tt tt (λ α δ. tt) (λ α δ. (and_then ! (held_at ! 20 refl) (no_more !))) (λ α δ s _ h g-s.
       lands-in ! (init ! 26 refl (typed 𝓛 SeenType s g-s).0) $
       sets ! (addr ! (from ! (fld ! refl (hop ! (look_in ! 30 (sub ! 0 refl (whole !))) (stop !))))) (init ! 16 refl (tt, tt)) $
-      sets ! (agg ! (and_then ! (held-at ! 16 refl) (and_then ! (load ! (from ! (fld ! refl (stop !))) (look_in ! 30 (sub ! 1 refl (whole !)))) (no_more !)))) (init ! 14 refl (tt, (tt, (record { fits = gn.0 }, tt)))) $
+      sets ! (agg ! (and_then ! (held_at ! 16 refl) (and_then ! (load ! (from ! (fld ! refl (stop !))) (look_in ! 30 (sub ! 1 refl (whole !)))) (no_more !)))) (init ! 14 refl (tt, (tt, (record { fits = gn.0 }, tt)))) $
       move ! (0 ∷ 4 ∷ 5 ∷ []) $
-      calls-lent-beside ! (fm_of 𝓤 H 𝓛.laws 𝓣) Check known-check b o ys gn (named 1) κ' q' b' o' γ' xs (s.places, tt) (seen_places_spelled 𝓛 s g-s, tt) (λ α δ. tt) (λ α δ. (and_then ! (held-at ! 14 refl) (and_then ! (held-at ! 28 refl) (and_then ! (load ! (from ! (fld ! refl (stop !))) (look_in ! 26 (sub ! 1 refl (whole !)))) (no_more !))))) (λ α δ l _ h₂ g-l.
+      calls-lent-beside ! (fm_of 𝓤 H 𝓛.laws 𝓣) Check known-check b o ys gn (named 1) κ' q' b' o' γ' xs (s.places, tt) (seen_places_spelled 𝓛 s g-s, tt) (λ α δ. tt) (λ α δ. (and_then ! (held_at ! 14 refl) (and_then ! (held_at ! 28 refl) (and_then ! (load ! (from ! (fld ! refl (stop !))) (look_in ! 26 (sub ! 1 refl (whole !)))) (no_more !))))) (λ α δ l _ h₂ g-l.
       lands-in ! (init ! 24 refl (typed 𝓛 NotedType l g-l).0) $
-      calls-by-value ! (fm_of 𝓤 H 𝓛.laws 𝓣) ImportAnswer known-import-answer (s, (l, tt)) (g-s, (g-l, tt)) tt (and_then ! (held-at ! 27 refl) (and_then ! (held-at ! 25 refl) (no_more !))) (λ c _ h₃ g-c.
+      calls-by-value ! (fm_of 𝓤 H 𝓛.laws 𝓣) ImportAnswer known-import-answer (s, (l, tt)) (g-s, (g-l, tt)) tt (and_then ! (held_at ! 27 refl) (and_then ! (held_at ! 25 refl) (no_more !))) (λ c _ h₃ g-c.
       lands-in ! (init ! 22 refl (typed 𝓛 ChangeType c g-c).0) $
-      calls-by-value ! (fm_of 𝓤 H 𝓛.laws 𝓣) Accepted known-accepted (c, tt) (g-c, tt) tt (and_then ! (held-at ! 23 refl) (no_more !)) (λ t _ h₄ g-t.
+      calls-by-value ! (fm_of 𝓤 H 𝓛.laws 𝓣) Accepted known-accepted (c, tt) (g-c, tt) tt (and_then ! (held_at ! 23 refl) (no_more !)) (λ t _ h₄ g-t.
       lands-in ! (init ! 12 refl (typed 𝓛 BoolType t g-t).0) $
-      first ! $ branches ! (held-at ! 12 refl)
+      first ! $ branches ! (held_at ! 12 refl)
       (λ yes.
       sets ! (addr ! (from ! (fld ! refl (hop ! (look_in ! 30 (sub ! 0 refl (whole !))) (stop !))))) (init ! 8 refl (tt, tt)) $
-      sets ! (agg ! (and_then ! (held-at ! 8 refl) (and_then ! (load ! (from ! (fld ! refl (stop !))) (look_in ! 30 (sub ! 1 refl (whole !)))) (no_more !)))) (init ! 6 refl (tt, (tt, (record { fits = gn.0 }, tt)))) $
-      calls-mut-beside-last ! (fm_of 𝓤 H 𝓛.laws 𝓣) PlaceAll known-place-all b o ys gn (named 1) κ' q' b' o' γ' xs tt tt (λ α δ. tt) (λ α δ. (and_then ! (held-at ! 6 refl) (and_then ! (held-at ! 28 refl) (no_more !)))) (λ α δ u zs _ lz h₅ g-u.
+      sets ! (agg ! (and_then ! (held_at ! 8 refl) (and_then ! (load ! (from ! (fld ! refl (stop !))) (look_in ! 30 (sub ! 1 refl (whole !)))) (no_more !)))) (init ! 6 refl (tt, (tt, (record { fits = gn.0 }, tt)))) $
+      calls-mut-beside-last ! (fm_of 𝓤 H 𝓛.laws 𝓣) PlaceAll known-place-all b o ys gn (named 1) κ' q' b' o' γ' xs tt tt (λ α δ. tt) (λ α δ. (and_then ! (held_at ! 6 refl) (and_then ! (held_at ! 28 refl) (no_more !)))) (λ α δ u zs _ lz h₅ g-u.
       lands-in-last ! (init ! 10 refl (typed 𝓛 UnitType u g-u).0) $
       resumes ! 𝓣 (locals_at (self.Code.function).locals (l₀ ∷ l₁ ∷ l₂ ∷ l₃ ∷ l₄ ∷ l₅ ∷ l₆ ∷ l₇ ∷ l₈ ∷ l₉ ∷ l₁₀ ∷ l₁₁ ∷ l₁₂ ∷ l₁₃ ∷ [])) self.Code.Mir.t-10 Post $ move ! (0 ∷ 3 ∷ 4 ∷ 5 ∷ []) $ closes_slice ! tt EntryType.row ys zs lz b o $
-      sets ! (of_opd ! (held-at ! 21 refl)) (init ! 31 refl (typed 𝓛 ChangeType c g-c).0) $ returns ! (look ! 31 refl) $ frees_locals ! 5 refl $
+      sets ! (of_opd ! (held_at ! 21 refl)) (init ! 31 refl (typed 𝓛 ChangeType c g-c).0) $ returns ! (look ! 31 refl) $ frees_locals ! 5 refl $
       by ! (exits c zs lz g-c (import-made ys xs c (import-number ys xs s l (number_in c) h h₂ h₃) t h₄ yes zs h₅))))
       (λ no.
       skips ! $ resumes ! 𝓣 (locals_at (self.Code.function).locals (l₀ ∷ l₁ ∷ l₂ ∷ l₃ ∷ l₄ ∷ l₅ ∷ l₆ ∷ l₇ ∷ l₈ ∷ l₉ ∷ l₁₀ ∷ l₁₁ ∷ l₁₂ ∷ l₁₃ ∷ [])) self.Code.Mir.t-10 Post $ move ! (0 ∷ 3 ∷ 4 ∷ 5 ∷ []) $ closes_slice ! tt EntryType.row ys ys refl b o $
-      sets ! (of_opd ! (held-at ! 21 refl)) (init ! 31 refl (typed 𝓛 ChangeType c g-c).0) $ returns ! (look ! 31 refl) $ frees_locals ! 5 refl $
+      sets ! (of_opd ! (held_at ! 21 refl)) (init ! 31 refl (typed 𝓛 ChangeType c g-c).0) $ returns ! (look ! 31 refl) $ frees_locals ! 5 refl $
       by ! (exits c ys refl g-c (import-kept ys xs c (import-number ys xs s l (number_in c) h h₂ h₃) t h₄ no)))))))))))))))))))))
 
 import-meets : {M : Type 1} {𝓤 : Ura M} (𝓛 : Logic 𝓤) (𝓣 : Tables 𝓤 𝓛.H) (known-examine : Triple 𝓤 (𝓣.C examine.Symbol.name) (contract-of Examine 𝓛)) (known-check : Triple 𝓤 (𝓣.C check.Symbol.name) (contract-of Check 𝓛)) (known-import-answer : Triple 𝓤 (𝓣.C import-answer.Symbol.name) (contract-of ImportAnswer 𝓛)) (known-accepted : Triple 𝓤 (𝓣.C accepted.Symbol.name) (contract-of Accepted 𝓛)) (known-place-all : Triple 𝓤 (𝓣.C place-all.Symbol.name) (contract-of PlaceAll 𝓛)) → Triple 𝓤 (WpFn 𝓤 𝓛.H 𝓣.C 𝓣.Λ self.Code.function) (contract-of Import 𝓛)

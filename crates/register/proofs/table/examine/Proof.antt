@@ -14,7 +14,7 @@ use Rattle.register.proofs.lists.GatheredTests.{seen_all, seen_end, seen_next, s
 use Rattle.register.proofs.walks.ProgramLogic.{ !, Env, GName, Item, Lft, Out, Room, SProp, Share, Sq, Tables, Triple, Ura, Val, WpFn, ◌$◌, ◌∵◌, after_turn, again, alloc0, alloc1, and_then, any_q, bin, blocks, branches, by, cited, ent, enter, entered, exec, fat, first, fld, flft, fm_of, forget, from, full_share, hop, init, jumps, lit, load, look, look_in, look_raw, loops, move, named, no_more, of_opd, only, params1, pass0, pass1, place_is, qed, returns, rewrite, row, runs, skips, stop, store, sub, tables, tables_of, ty_ptr, vint, vptr, w64, whole, ‵, ⋆}
 use Rattle.register.proofs.walks.PlainTypes.{EntryType, SeenType, Spelled, WordType, entry_number_spelled, entry_offset_fits, typed}
 use Rattle.register.proofs.walks.RowLending.{slice_words}
-use Rattle.register.proofs.walks.Locals.{cells, frees_locals, held-at, lands-in, locals_at, rest-after, resumes, room, sets, sets_last, value}
+use Rattle.register.proofs.walks.Locals.{cells, frees_locals, held_at, lands-in, locals_at, rest_after, resumes, room, sets, sets_last, value}
 use Rattle.register.proofs.walks.TableFunctions.{contract-of}
 use Rattle.register.proofs.walks.Functions.{Examine, Find, NothingSeen, See}
 use Rattle.register.proofs.walks.CallRules.{SharedSlice, calls-by-value, calls-shared}
@@ -81,28 +81,28 @@ module _ {M : Type 1} {𝓤 : Ura M} (𝓛 : Logic 𝓤) (𝓣 : Tables 𝓤 �
     unfolding after_turn
     turns i =
         sets ! (of_opd ! (load ! (from ! (fld ! refl (stop !))) (look_in ! 18 (sub ! 1 refl (whole !))))) (init ! 8 refl (tt, record { fits = gn.0 })) $
-        sets ! (bin ! (held-at ! 14 refl) (held-at ! 8 refl) tt) (init ! 6 refl (tt, tt)) $
-        first ! $ branches ! (held-at ! 6 refl)
+        sets ! (bin ! (held_at ! 14 refl) (held_at ! 8 refl) tt) (init ! 6 refl (tt, tt)) $
+        first ! $ branches ! (held_at ! 6 refl)
         (λ less.
-        skips ! $ exec ! 𝓣.C 𝓣.Λ En (rest-after 3 self.Code.Mir.turn-1) (any_q (Ends i)) $
-        sets ! (bin ! (held-at ! 14 refl) (lit ! tt) (record { fits = entry_offset_fits i.place _ (ltb→lt i.place (length ys) less) gn })) (store ! 8 refl (tt, record { fits = entry_offset_fits i.place _ (ltb→lt i.place (length ys) less) gn })) $
-        sets ! (bin ! (load ! (from ! (fld ! refl (stop !))) (look_in ! 18 (sub ! 0 refl (whole !)))) (held-at ! 8 refl) tt) (init ! 4 refl (tt, tt)) $
+        skips ! $ exec ! 𝓣.C 𝓣.Λ En (rest_after 3 self.Code.Mir.turn-1) (any_q (Ends i)) $
+        sets ! (bin ! (held_at ! 14 refl) (lit ! tt) (record { fits = entry_offset_fits i.place _ (ltb→lt i.place (length ys) less) gn })) (store ! 8 refl (tt, record { fits = entry_offset_fits i.place _ (ltb→lt i.place (length ys) less) gn })) $
+        sets ! (bin ! (load ! (from ! (fld ! refl (stop !))) (look_in ! 18 (sub ! 0 refl (whole !)))) (held_at ! 8 refl) tt) (init ! 4 refl (tt, tt)) $
         rewrite ! 4 (λ (p : ℕ). ‵ (fat full_share ty_ptr l₈ 0 (vptr b p))) (sym (place_is 72 o i.place)) refl $
         entry-taken ! tt (named 0) κ q b o γ ys i.place (ltb→lt i.place (length ys) less) (λ share g.
         sets ! (of_opd ! (load ! (from ! (hop ! (look ! 8 refl) (stop !))) (look_raw ! 0 refl))) (init ! 6 refl (typed 𝓛 EntryType (get_or ys i.place free) g).0) $
         entry-put-back ! tt (named 0) κ q b o γ ys i.place (ltb→lt i.place (length ys) less) share $
-        sets ! (of_opd ! (held-at ! 2 refl)) (init ! 12 refl (typed 𝓛 EntryType (get_or ys i.place free) g).0) $
-        calls-shared ! (fm_of 𝓤 H 𝓛.laws 𝓣) Find known-find (named 0) κ q b o γ ys ((get_or ys i.place free).number.0, tt) (entry_number_spelled 𝓛 (get_or ys i.place free) g, tt) tt (and_then ! (held-at ! 18 refl) (and_then ! (load ! (from ! (fld ! refl (fld ! refl (stop !)))) (look_in ! 12 (sub ! 0 refl (sub ! 0 refl (whole !))))) (no_more !))) (λ j _ h g-j.
+        sets ! (of_opd ! (held_at ! 2 refl)) (init ! 12 refl (typed 𝓛 EntryType (get_or ys i.place free) g).0) $
+        calls-shared ! (fm_of 𝓤 H 𝓛.laws 𝓣) Find known-find (named 0) κ q b o γ ys ((get_or ys i.place free).number.0, tt) (entry_number_spelled 𝓛 (get_or ys i.place free) g, tt) tt (and_then ! (held_at ! 18 refl) (and_then ! (load ! (from ! (fld ! refl (fld ! refl (stop !)))) (look_in ! 12 (sub ! 0 refl (sub ! 0 refl (whole !))))) (no_more !))) (λ j _ h g-j.
         lands-in ! (init ! 10 refl (typed 𝓛 WordType j g-j).0) $
-        calls-by-value ! (fm_of 𝓤 H 𝓛.laws 𝓣) See known-see (i.has.found, (get_or ys i.place free, (i.place, (j, tt)))) (i.has.spelled, (g, ((refl, place-fits (length ys) (SeenBefore ys) gn.0 i), (g-j, tt)))) (one-more-fits ys i.place i.has gn (ltb→lt i.place (length ys) less)) (and_then ! (held-at ! 17 refl) (and_then ! (held-at ! 13 refl) (and_then ! (held-at ! 15 refl) (and_then ! (held-at ! 11 refl) (no_more !))))) (λ s _ h₂ g-s.
+        calls-by-value ! (fm_of 𝓤 H 𝓛.laws 𝓣) See known-see (i.has.found, (get_or ys i.place free, (i.place, (j, tt)))) (i.has.spelled, (g, ((refl, place-fits (length ys) (SeenBefore ys) gn.0 i), (g-j, tt)))) (one-more-fits ys i.place i.has gn (ltb→lt i.place (length ys) less)) (and_then ! (held_at ! 17 refl) (and_then ! (held_at ! 13 refl) (and_then ! (held_at ! 15 refl) (and_then ! (held_at ! 11 refl) (no_more !))))) (λ s _ h₂ g-s.
         lands-in ! (store ! 16 refl (typed 𝓛 SeenType s g-s).0) $
         let next : Upto = next-turn (length ys) (SeenBefore ys) i (ltb→lt i.place (length ys) less) (seen-before-next ys i.place i.has j s (ltb→lt i.place (length ys) less) h h₂ g-s) in
-        sets_last ! (bin ! (held-at ! 14 refl) (lit ! tt) (record { fits = place-fits (length ys) (SeenBefore ys) gn.0 next })) (store ! 14 refl (tt, record { fits = place-fits (length ys) (SeenBefore ys) gn.0 next })) $
+        sets_last ! (bin ! (held_at ! 14 refl) (lit ! tt) (record { fits = place-fits (length ys) (SeenBefore ys) gn.0 next })) (store ! 14 refl (tt, record { fits = place-fits (length ys) (SeenBefore ys) gn.0 next })) $
         forget ! 12 refl $ forget ! 10 refl $ forget ! 8 refl $ forget ! 6 refl $ forget ! 4 refl $ forget ! 2 refl $
         again ! (Nearer (length ys) (SeenBefore ys)) At i next (next-nearer (length ys) (SeenBefore ys) i (ltb→lt i.place (length ys) less) next.has)))))
         (λ past.
         jumps ! $ resumes ! 𝓣 En self.Code.Mir.t-4 Post $
-        sets ! (of_opd ! (held-at ! 16 refl)) (init ! 20 refl (typed 𝓛 SeenType i.has.found i.has.spelled).0) $
+        sets ! (of_opd ! (held_at ! 16 refl)) (init ! 20 refl (typed 𝓛 SeenType i.has.found i.has.spelled).0) $
         returns ! (look ! 20 refl) $ frees_locals ! 2 refl $
         by ! (read_left 𝓛 Examine κ q b o γ ys tt i.has.found i.has.spelled (λ e. all_seen ys i.place i.has (nltb→le i.place (length ys) past))))
 

@@ -11,7 +11,7 @@ use Rattle.register.proofs.lists.NumberPlace.{NoneBefore, first-at-end, first-at
 use Rattle.register.proofs.walks.ProgramLogic.{ !, Env, GName, Item, Lft, Out, Room, SProp, Share, Sq, Tables, Triple, Ura, Val, WpFn, ◌$◌, ◌∵◌, after_turn, again, alloc0, alloc1, any_q, bin, blocks, branches, by, ent, enter, entered, exec, fat, first, fld, flft, forget, from, full_share, hop, init, jumps, lit, load, look, look_in, look_raw, loops, move, named, of_opd, only, params1, pass0, pass1, place_is, qed, returns, returns_within, rewrite, row, runs, skips, stop, store, sub, tables, tables_of, ty_ptr, vint, vptr, w64, whole, ‵, ⋆}
 use Rattle.register.proofs.walks.PlainTypes.{EntryType, Spelled, WordType, entry_offset_fits, fails_false, holds_true, typed}
 use Rattle.register.proofs.walks.RowLending.{slice_words}
-use Rattle.register.proofs.walks.Locals.{cells, frees_locals, held-at, locals_at, rest-after, resumes, room, sets, sets_last, value}
+use Rattle.register.proofs.walks.Locals.{cells, frees_locals, held_at, locals_at, rest_after, resumes, room, sets, sets_last, value}
 use Rattle.register.proofs.walks.TableFunctions.{contract-of}
 use Rattle.register.proofs.walks.Functions.{Find}
 use Rattle.register.proofs.walks.CallRules.{SharedSlice}
@@ -48,32 +48,32 @@ module _ {M : Type 1} {𝓤 : Ura M} (𝓛 : Logic 𝓤) (𝓣 : Tables 𝓤 �
     unfolding after_turn
     turns i =
         sets ! (of_opd ! (load ! (from ! (fld ! refl (stop !))) (look_in ! 16 (sub ! 1 refl (whole !))))) (init ! 8 refl (tt, record { fits = gn.0 })) $
-        sets ! (bin ! (held-at ! 12 refl) (held-at ! 8 refl) tt) (init ! 6 refl (tt, tt)) $
-        first ! $ branches ! (held-at ! 6 refl)
+        sets ! (bin ! (held_at ! 12 refl) (held_at ! 8 refl) tt) (init ! 6 refl (tt, tt)) $
+        first ! $ branches ! (held_at ! 6 refl)
         (λ less.
-        skips ! $ exec ! 𝓣.C 𝓣.Λ En (rest-after 3 self.Code.Mir.turn-1) (any_q (Ends i)) $
-        sets ! (bin ! (held-at ! 12 refl) (lit ! tt) (record { fits = offset less })) (store ! 8 refl (tt, record { fits = offset less })) $
-        sets ! (bin ! (load ! (from ! (fld ! refl (stop !))) (look_in ! 16 (sub ! 0 refl (whole !)))) (held-at ! 8 refl) tt) (init ! 4 refl (tt, tt)) $
+        skips ! $ exec ! 𝓣.C 𝓣.Λ En (rest_after 3 self.Code.Mir.turn-1) (any_q (Ends i)) $
+        sets ! (bin ! (held_at ! 12 refl) (lit ! tt) (record { fits = offset less })) (store ! 8 refl (tt, record { fits = offset less })) $
+        sets ! (bin ! (load ! (from ! (fld ! refl (stop !))) (look_in ! 16 (sub ! 0 refl (whole !)))) (held_at ! 8 refl) tt) (init ! 4 refl (tt, tt)) $
         rewrite ! 4 (λ (p : ℕ). ‵ (fat full_share ty_ptr l₇ 0 (vptr b p))) (sym (place_is 72 o i.place)) refl $
         entry-taken ! tt (named 0) κ q b o γ ys i.place (ltb→lt i.place (length ys) less) (λ q' g.
         sets ! (of_opd ! (load ! (from ! (hop ! (look ! 8 refl) (stop !))) (look_raw ! 0 refl))) (init ! 6 refl (typed 𝓛 EntryType (get_or ys i.place free) g).0) $
         entry-put-back ! tt (named 0) κ q b o γ ys i.place (ltb→lt i.place (length ys) less) q' $
-        sets ! (of_opd ! (held-at ! 2 refl)) (init ! 10 refl (typed 𝓛 EntryType (get_or ys i.place free) g).0) $
-        sets ! (bin ! (load ! (from ! (fld ! refl (fld ! refl (stop !)))) (look_in ! 10 (sub ! 0 refl (sub ! 0 refl (whole !))))) (held-at ! 14 refl) tt) (store ! 6 refl (tt, tt)) $
-        first ! $ branches ! (held-at ! 6 refl)
+        sets ! (of_opd ! (held_at ! 2 refl)) (init ! 10 refl (typed 𝓛 EntryType (get_or ys i.place free) g).0) $
+        sets ! (bin ! (load ! (from ! (fld ! refl (fld ! refl (stop !)))) (look_in ! 10 (sub ! 0 refl (sub ! 0 refl (whole !))))) (held_at ! 14 refl) tt) (store ! 6 refl (tt, tt)) $
+        first ! $ branches ! (held_at ! 6 refl)
         (λ hit.
-        sets ! (of_opd ! (held-at ! 12 refl)) (init ! 18 refl (tt, record { fits = fits i })) $
+        sets ! (of_opd ! (held_at ! 12 refl)) (init ! 18 refl (tt, record { fits = fits i })) $
         returns_within ! Post refl (look ! 18 refl) $ frees_locals ! 2 refl $
         by ! (exits i (first-at-match ys v i.place i.has (ltb→lt i.place (length ys) less) (holds_true _ hit))))
         (λ missed.
-        skips ! $ exec ! 𝓣.C 𝓣.Λ En (rest-after 9 self.Code.Mir.turn-1) (any_q (Ends i)) $
+        skips ! $ exec ! 𝓣.C 𝓣.Λ En (rest_after 9 self.Code.Mir.turn-1) (any_q (Ends i)) $
         let next : Upto = next-turn (length ys) (NoneBefore ys v) i (ltb→lt i.place (length ys) less) (none-before-next ys v i.place i.has (ltb→lt i.place (length ys) less) (fails_false _ missed)) in
-        sets_last ! (bin ! (held-at ! 12 refl) (lit ! tt) (record { fits = fits next })) (store ! 12 refl (tt, record { fits = fits next })) $
+        sets_last ! (bin ! (held_at ! 12 refl) (lit ! tt) (record { fits = fits next })) (store ! 12 refl (tt, record { fits = fits next })) $
         forget ! 10 refl $ forget ! 8 refl $ forget ! 6 refl $ forget ! 4 refl $ forget ! 2 refl $
         again ! (Nearer (length ys) (NoneBefore ys v)) At i next (next-nearer (length ys) (NoneBefore ys v) i (ltb→lt i.place (length ys) less) next.has))))
         (λ past.
         jumps ! $ resumes ! 𝓣 En self.Code.Mir.t-3 Post $
-        sets ! (of_opd ! (held-at ! 12 refl)) (init ! 18 refl (tt, record { fits = fits i })) $
+        sets ! (of_opd ! (held_at ! 12 refl)) (init ! 18 refl (tt, record { fits = fits i })) $
         returns ! (look ! 18 refl) $ frees_locals ! 2 refl $
         by ! (exits i (first-at-end ys v i.place i.has (nltb→le i.place (length ys) past))))
       where

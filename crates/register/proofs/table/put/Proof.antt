@@ -11,7 +11,7 @@ use Rattle.register.proofs.lists.NumberPlace.{set-at-place, set-past-end}
 use Rattle.register.proofs.walks.ProgramLogic.{ !, GName, Is, Lft, Room, SProp, Share, Tables, Triple, Ura, Val, WpFn, ◌$◌, ◌∵◌, addr, agg, alloc0, alloc1, and_then, assigns_last, bin, branches, by, cited, closes_slice, drop, elem_out, elem_put, ent, enter, entered, fat, first, fld, flft, fm_of, from, full_share, hop, init, lit, load, look, look_in, move, no_more, of_opd, only, opens_slice, owned, params1, pass0, pass1, place_is, qed, returns, rewrite, row, shows, skips, stop, store_raw, sub, tables, tables_of, ty_ptr, unit_lit, vptr, whole, ‵, ⋆}
 use Rattle.register.proofs.walks.PlainTypes.{EntryType, Spelled, UnitType, WordType, entry_offset_fits, typed}
 use Rattle.register.proofs.walks.RowLending.{slice_words}
-use Rattle.register.proofs.walks.Locals.{frees_locals, held-at, lands-in, locals_at, resumes, sets}
+use Rattle.register.proofs.walks.Locals.{frees_locals, held_at, lands-in, locals_at, resumes, sets}
 use Rattle.register.proofs.walks.TableFunctions.{contract-of}
 use Rattle.register.proofs.walks.Functions.{Find, Put}
 use Rattle.register.proofs.walks.CallRules.{calls-lent}
@@ -38,18 +38,18 @@ module _ {M : Type 1} {𝓤 : Ura M} (𝓛 : Logic 𝓤) (𝓣 : Tables 𝓤 �
       pass1 ! (init ! 18 refl (tt, (tt, (record { fits = gn.0 }, tt)))) $ pass1 ! (init ! 16 refl (typed 𝓛 WordType v g-v).0) $ pass1 ! (init ! 14 refl (typed 𝓛 EntryType e g-e).0) $ pass0 ! $ move ! (22 ∷ 23 ∷ 24 ∷ []) $ opens_slice ! tt EntryType.row ys b o $
       -- [the table's row; its open borrow; its last list twice; the last local; …; _0]
       sets ! (addr ! (from ! (fld ! refl (hop ! (look_in ! 22 (sub ! 0 refl (whole !))) (stop !))))) (init ! 14 refl (tt, tt)) $
-      sets ! (agg ! (and_then ! (held-at ! 14 refl) (and_then ! (load ! (from ! (fld ! refl (stop !))) (look_in ! 22 (sub ! 1 refl (whole !)))) (no_more !)))) (init ! 12 refl (tt, (tt, (record { fits = gn.0 }, tt)))) $
-      calls-lent ! (fm_of 𝓤 H 𝓛.laws 𝓣) Find known-find b o ys gn (v, tt) (g-v, tt) (λ α δ. tt) (λ α δ. (and_then ! (held-at ! 14 refl) (and_then ! (held-at ! 22 refl) (no_more !)))) (λ α δ i _ h g-i.
+      sets ! (agg ! (and_then ! (held_at ! 14 refl) (and_then ! (load ! (from ! (fld ! refl (stop !))) (look_in ! 22 (sub ! 1 refl (whole !)))) (no_more !)))) (init ! 12 refl (tt, (tt, (record { fits = gn.0 }, tt)))) $
+      calls-lent ! (fm_of 𝓤 H 𝓛.laws 𝓣) Find known-find b o ys gn (v, tt) (g-v, tt) (λ α δ. tt) (λ α δ. (and_then ! (held_at ! 14 refl) (and_then ! (held_at ! 22 refl) (no_more !)))) (λ α δ i _ h g-i.
       lands-in ! (init ! 16 refl (typed 𝓛 WordType i g-i).0) $
       sets ! (of_opd ! (load ! (from ! (fld ! refl (stop !))) (look_in ! 22 (sub ! 1 refl (whole !))))) (init ! 10 refl (tt, record { fits = gn.0 })) $
-      sets ! (bin ! (held-at ! 16 refl) (held-at ! 10 refl) tt) (init ! 8 refl (tt, tt)) $
-      first ! $ branches ! (held-at ! 8 refl)
+      sets ! (bin ! (held_at ! 16 refl) (held_at ! 10 refl) tt) (init ! 8 refl (tt, tt)) $
+      first ! $ branches ! (held_at ! 8 refl)
       (λ less.
-      sets ! (bin ! (held-at ! 16 refl) (lit ! tt) (record { fits = entry_offset_fits i _ (ltb→lt i (length ys) less) gn })) (init ! 6 refl (tt, record { fits = entry_offset_fits i _ (ltb→lt i (length ys) less) gn })) $
-      sets ! (bin ! (load ! (from ! (fld ! refl (stop !))) (look_in ! 22 (sub ! 0 refl (whole !)))) (held-at ! 6 refl) tt) (init ! 4 refl (tt, tt)) $
+      sets ! (bin ! (held_at ! 16 refl) (lit ! tt) (record { fits = entry_offset_fits i _ (ltb→lt i (length ys) less) gn })) (init ! 6 refl (tt, record { fits = entry_offset_fits i _ (ltb→lt i (length ys) less) gn })) $
+      sets ! (bin ! (load ! (from ! (fld ! refl (stop !))) (look_in ! 22 (sub ! 0 refl (whole !)))) (held_at ! 6 refl) tt) (init ! 4 refl (tt, tt)) $
       rewrite ! 4 (λ (p : ℕ). ‵ (fat full_share ty_ptr l₁₀ 0 (vptr b p))) (sym (place_is 72 o i)) refl $
       elem_out ! EntryType.row (Is EntryType.row) (shows 𝓛 EntryType.row) (λ (x : Entry). EntryType.val x ∷ []) EntryType.tells full_share ys i free b o (ltb→lt i (length ys) less) (λ g.
-      assigns_last ! (of_opd ! (held-at ! 20 refl)) (from ! (hop ! (look ! 6 refl) (stop !))) (store_raw ! 0 refl (typed 𝓛 EntryType e g-e).0) $
+      assigns_last ! (of_opd ! (held_at ! 20 refl)) (from ! (hop ! (look ! 6 refl) (stop !))) (store_raw ! 0 refl (typed 𝓛 EntryType e g-e).0) $
       move ! (1 ∷ []) $ drop ! $ owned ! EntryType.row (Is EntryType.row) (EntryType.makes 𝓛) e _ g-e $ move ! (1 ∷ 0 ∷ []) $ elem_put ! EntryType.row full_share ys i e (EntryType.val e ∷ []) b o (ltb→lt i (length ys) less) $
       resumes ! 𝓣 (locals_at (self.Code.function).locals (l₀ ∷ l₁ ∷ l₂ ∷ l₃ ∷ l₄ ∷ l₅ ∷ l₆ ∷ l₇ ∷ l₈ ∷ l₉ ∷ l₁₀ ∷ [])) self.Code.Mir.t-7 Post $ closes_slice ! tt EntryType.row ys (set ys i e) (length-set ys i e) b o $
       sets ! (of_opd ! (unit_lit !)) (init ! 23 refl (tt, tt)) $ returns ! (look ! 23 refl) $ frees_locals ! 3 refl $

@@ -1,13 +1,13 @@
 -- `text::columns::next_field` meets its contract: each kind of field by its own scan.
-use mathlib.Core.Path.{◌≡◌, ap, subst}
+use mathlib.Core.Path.{◌≡◌, sym, ap, ◌∙◌, subst}
 use mathlib.Core.Bool.{true}
 use borrow.Author.Tests.{leb-true}
 use Rattle.text.specs.declared.columns.Holds.{Holds}
 use Rattle.text.specs.declared.field.Scanned.{Scanned}
 use Rattle.text.specs.declared.number.Signed.{Signed}
-use Rattle.text.specs.declared.number.NumberOr.{NumberOr}
 use Rattle.text.specs.Numbers.{most_digits}
-use Rattle.text.specs.Scanned.{is_narrow}
+use Rattle.text.specs.Columns.{rule_of}
+use Rattle.text.specs.Scanned.{next_at, is_narrow}
 use borrow.Author.Rules.{rules}
 use Rattle.text.proofs.columns.next_field.Statement.{statement}
 use Rattle.text.proofs.columns.next_field.Tie as tie
@@ -48,15 +48,6 @@ signed-at-requires c κs =
     let start = c.before.before.before.before in
     (start.requires.0, leb-true held.0.0 most_digits (subst (λ (what : Holds). is_narrow what ≡ true) held.1 start.requires.1))
 
-enum-known-held-3 : tie.Need-enum-known-held-3
-enum-known-held-3 c = search rules
-
-number-or-at-requires : tie.Need-number-or-at-requires
-number-or-at-requires c κs =
-    let held = c.before.held3.given in
-    let start = c.before.before.before.before in
-    (start.requires.0, leb-true held.0.0 most_digits (subst (λ (what : Holds). is_narrow what ≡ true) held.1 start.requires.1))
-
 returns : tie.Need-returns
 returns c = rw c.before.enum_told.given.1 c.id-at.ensures
 
@@ -72,9 +63,6 @@ returns-4 c = rw c.before.before.held.given.1 (ap (λ (x : Scanned). x.next) c.n
 returns-5 : tie.Need-returns-5
 returns-5 c = rw c.before.before.held2.given.1 (ap (λ (x : Signed). x.next) c.signed-at.ensures)
 
-returns-6 : tie.Need-returns-6
-returns-6 c = rw c.before.before.held3.given.1 (ap (λ (x : NumberOr). x.next) c.number-or-at.ensures)
-
 pub next-field-spec : {M : Type 1} → statement M
 next-field-spec =
     tie.close
@@ -89,11 +77,8 @@ next-field-spec =
     number-at-requires
     enum-known-held-2
     signed-at-requires
-    enum-known-held-3
-    number-or-at-requires
     returns
     returns-2
     returns-3
     returns-4
-    returns-5
-    returns-6)
+    returns-5)

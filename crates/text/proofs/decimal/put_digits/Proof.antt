@@ -1,19 +1,13 @@
 -- `text::decimal::put_digits` meets its contract: the digits still to be written stand before those that are.
-use Rattle.text.specs.Decimal.{decimal}
-use Rattle.text.proofs.Backward.{Writing, write_start, write-more, write_done}
-use Rattle.text.proofs.Decimals.{decimal-one, decimal_more, some_digit}
-use Prim.Native.Nat.{ℕ, ◌+◌, ◌-◌, ◌/◌, ◌%◌}
-use Prim.Native.Char.{code}
-use mathlib.Core.Path.{◌≡◌, refl, sym, ap, ap₂, ◌∙◌}
-use mathlib.Core.List.{[]}
-use lib.ListN.{length, set}
+use Rattle.text.proofs.Decimals.{Writing, write_start, write-more, write-last, some_digit}
+use Prim.Native.Nat.{◌-◌}
 use native.Mathlib.Omega.{arith}
 use borrow.Author.Rules.{rules}
 use Rattle.text.proofs.decimal.put_digits.Statement.{statement}
 use Rattle.text.proofs.decimal.put_digits.Tie as tie
 
 abbrev invariant-loop : tie.invariant-loop
-invariant-loop out₀ at n digits rest₀ i₀ out rest i = Writing out₀ at (decimal n) out (decimal rest) i
+invariant-loop out₀ at n digits rest₀ i₀ out rest i = Writing out₀ at n out rest i
 
 abbrev decreases-loop : tie.decreases-loop
 decreases-loop out₀ at n digits rest₀ i₀ out rest i = rest
@@ -22,7 +16,7 @@ add-i : tie.Need-overflow-add-i invariant-loop decreases-loop
 add-i c = search rules
 
 loop-holds : tie.Need-loop-init invariant-loop decreases-loop
-loop-holds c = rw c.before.requires.0 (write_start c.before.args.out.now c.before.args.at (decimal c.before.args.n) (omega (arith, c.before.requires)))
+loop-holds c = rw c.before.requires.0 (write_start c.before.args.out.now c.before.args.at c.before.args.n (omega (arith, c.before.requires)))
 
 sub-i : tie.Need-overflow-sub-i invariant-loop decreases-loop
 sub-i c = omega (arith, c.before.loop.invariant.offset, some_digit c.before.loop.rest)
@@ -37,9 +31,7 @@ loop-less : tie.Need-loop-smaller invariant-loop decreases-loop
 loop-less c = omega (arith, c.before.loop-test.true)
 
 loop-again : tie.Need-loop-preserved invariant-loop decreases-loop
-loop-again c =
-    let turn = c.before.before.loop in
-    rw c.digit.ensures (write-more turn.invariant (decimal (turn.rest / 10)) (code "0" + turn.rest % 10) (decimal_more turn.rest c.before.loop-test.true))
+loop-again c = rw c.digit.ensures (write-more c.before.before.loop.invariant c.before.loop-test.true)
 
 digit-requires-2 : tie.Need-digit-requires-2 invariant-loop decreases-loop
 digit-requires-2 c κs = c.loop-test.false
@@ -51,11 +43,7 @@ same_length : tie.Need-same-length invariant-loop decreases-loop
 same_length c = search rules
 
 returns : tie.Need-returns invariant-loop decreases-loop
-returns c =
-    let turn = c.before.before.loop in
-    let one = decimal-one turn.rest c.before.loop-test.false in
-    let last : turn.i - 1 ≡ c.before.before.before.before.args.at = omega (arith, turn.invariant.offset, ap length one) in
-    ap₂ (λ (i b : ℕ). set turn.out i b) (sym last) c.digit2.ensures ∙ write_done (write-more turn.invariant [] (code "0" + turn.rest) one) refl
+returns c = rw c.digit2.ensures (write-last c.before.before.loop.invariant c.before.loop-test.false)
 
 pub put-digits-spec : {M : Type 1} → statement M
 put-digits-spec =

@@ -1,3 +1,0 @@
--- The definitions of `round`.
-pub mod Rounds
-pub mod Promised

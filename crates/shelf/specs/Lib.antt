@@ -1,2 +1,0 @@
--- The definitions of `shelf`.
-pub mod Shelf
