@@ -1,4 +1,6 @@
 // The answers of the bench's lists: records of ratios or of resistances, steps taken forward, tolerance tests.
+#![tactic(auto)]
+
 mod certificates;
 mod forward;
 mod scratch;

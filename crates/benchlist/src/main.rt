@@ -1,4 +1,6 @@
 // Answers the bench's lists: standard input to standard output.
+#![tactic(auto)]
+
 mod page;
 
 use list::Desk;

@@ -1,5 +1,7 @@
 // The bench cards, each run by the calls and printed with its numbers. The second program makes what is expected and holds it to what the cards state
 // (second/cards.py). Those with a star are also proved, as one table (specs/Cards.antt).
+#![tactic(auto)]
+
 ghost use Rattle.std.specs.Prelude.{pos, ◌≤ℤ◌};
 
 use certificate::{Certificate, CertificateAnswer, Given, Record};

@@ -12,7 +12,7 @@ use law::{Cell, Cells, NamedSubrange, Subrange};
 use purity::{by_gallium_or_mercury, by_silver};
 
 // The first cell at fault, or that there is none.
-#[derive(Drop)]
+#[derive(Clone, Copy)]
 pub enum FaultyCell {
     At(Cell),
     Nowhere,

@@ -1,4 +1,6 @@
 // Certificates: from a record of cell ratios or of resistances, or given and found sound.
+#![tactic(auto)]
+
 mod fault;
 mod record;
 mod resistances;

@@ -16,7 +16,7 @@ use purity::is_pure;
 use quantity::{Ratio, Refusal};
 
 // The subrange by its name, and a ratio for each cell, 0 where it was not measured.
-#[derive(Drop)]
+#[derive(Clone, Copy)]
 pub struct Record {
     pub subrange: Name,
     pub mercury: Ratio,

@@ -10,14 +10,14 @@ use law::{Name, NamedSubrange, Subrange};
 use quantity::{Nanoohm, Ratio, Refusal, are_within, ratio_within};
 
 // The sensor's resistance in a cell and in the water cell, 0 and 0 where the cell was not measured.
-#[derive(Drop)]
+#[derive(Clone, Copy)]
 pub struct Pair {
     pub r: Nanoohm,
     pub r0: Nanoohm,
 }
 
 // The subrange by its name, and two resistances for each cell.
-#[derive(Drop)]
+#[derive(Clone, Copy)]
 pub struct Resistances {
     pub subrange: Name,
     pub mercury: Pair,

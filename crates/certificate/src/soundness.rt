@@ -8,20 +8,20 @@ use law::{Cell, Law, Name, NamedLaw};
 use quantity::{Ratio, Refusal};
 
 // A certificate as it is given: the name of its law and its places.
-#[derive(Drop)]
+#[derive(Clone, Copy)]
 pub struct Given {
     pub law: Name,
     pub places: Places,
 }
 
 // A certificate whose law is known.
-#[derive(Drop)]
+#[derive(Clone, Copy)]
 pub struct Certificate {
     pub law: Law,
     pub places: Places,
 }
 
-#[derive(Drop)]
+#[derive(Clone, Copy)]
 pub enum CertificateAnswer {
     Certificate(Certificate),
     Refused(Refusal),

@@ -24,7 +24,7 @@ const FOR_STEP: u64 = 390_830_000_000;
 const FOR_SQUARE: u64 = 5_775;
 
 // hi·10^12 + lo
-#[derive(Drop)]
+#[derive(Clone, Copy)]
 struct Wide {
     hi: u64,
     lo: u64,
@@ -50,7 +50,7 @@ fn risen(n: u64) -> u64
 }
 
 // How far a ratio is under 1: units of 10^-18, and the rest in units of 10^-31.
-#[derive(Drop)]
+#[derive(Clone, Copy)]
 struct Fall {
     units: u64,
     rest: u64,

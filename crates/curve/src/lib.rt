@@ -1,4 +1,6 @@
 // The curve of IEC 60751: reading, forward from a step to its ratio, and the tolerance test. Each answer names the curve as its law.
+#![tactic(auto)]
+
 mod comparison;
 mod from_ratio;
 mod from_step;

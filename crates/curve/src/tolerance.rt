@@ -9,21 +9,21 @@ use law::{Law, ReadingAnswer};
 use quantity::{Celsius, Nanoohm, Refusal};
 
 // Whether a thermometer is within its class, its error in steps, which is the curve's step less the bath's, and the law by which it was read.
-#[derive(Drop)]
+#[derive(Clone, Copy)]
 pub struct ToleranceResult {
     pub law: Law,
     pub passes: bool,
     pub error: i64,
 }
 
-#[derive(Drop)]
+#[derive(Clone, Copy)]
 pub enum ToleranceAnswer {
     Tested(ToleranceResult),
     Refused(Refusal),
 }
 
 // What a class allows: baths up to a last one, the steps at 0 °C, and the thousandths of a step more for each step of the bath from there.
-#[derive(Drop)]
+#[derive(Clone, Copy)]
 pub struct Class {
     pub top: i64,
     pub fixed: u64,

@@ -1,4 +1,6 @@
 // How far a thermometer deviates from the reference function: a cell's deviation and its limit, and the deviation functions over the places of a certificate.
+#![tactic(auto)]
+
 mod limit;
 mod places;
 mod working;

@@ -8,15 +8,15 @@ use law::{Law, Name, NamedLaw};
 use quantity::Ratio;
 
 // A thermometer's number. 0 names none.
-#[derive(Drop)]
+#[derive(Clone, Copy)]
 pub struct Thermometer(pub u64);
 
 // A certificate's serial. A mark is the serial up to which certificates are withdrawn.
-#[derive(Drop)]
+#[derive(Clone, Copy)]
 pub struct Serial(pub u64);
 
 // Number 0 is a free place, whose rest is not looked at.
-#[derive(Drop)]
+#[derive(Clone, Copy)]
 pub struct Entry {
     pub number: Thermometer,
     pub serial: Serial,

@@ -1,5 +1,7 @@
 // An entry of the register, by value: the test of its certificate, how two entries of one thermometer become one, and how its mark is raised. What the tests of
 // whole tables and lists come to stands above this crate, in `examination`, and the table that is lent in `register`.
+#![tactic(auto)]
+
 mod entry;
 
 pub use entry::{

@@ -2,13 +2,13 @@
 ghost use Rattle.std.specs.Prelude.{◌*◌, ◌<◌};
 
 // A multiplicative generator modulo 2^31 - 1.
-#[derive(Drop)]
+#[derive(Clone, Copy)]
 pub struct Generator {
     pub state: u64,
 }
 
 // A number, and the generator after it.
-#[derive(Drop)]
+#[derive(Clone, Copy)]
 pub struct Drawn {
     pub generator: Generator,
     pub value: u64,

@@ -1,6 +1,8 @@
 // What the programs that are evidence share: cases from a small seeded generator, lines that are printed in part and digested whole, and words and
 // numbers that are printed one after the other.
 // second/README.md has the rules, which the second program follows too.
+#![tactic(auto)]
+
 mod certificates;
 mod figure;
 mod generator;

@@ -6,7 +6,7 @@ use crate::printing::{natural, text};
 use libc::STDOUT_FILENO;
 
 // The generator after a case, and the length of the case's line.
-#[derive(Drop)]
+#[derive(Clone, Copy)]
 pub struct Written {
     pub generator: Generator,
     pub len: usize,
@@ -20,7 +20,7 @@ pub fn empty_line() -> [u8; 240]
 }
 
 // How far a family of cases has come, and the digest of its block.
-#[derive(Drop)]
+#[derive(Clone, Copy)]
 pub struct Report {
     pub cases: u64,
     pub digest: u64,

@@ -1,4 +1,6 @@
 // A polynomial with whole coefficients at the fraction n / unit, worked by Horner's rule in whole numbers and rounded down after each product.
+#![tactic(auto)]
+
 ghost use Rattle.std.specs.Prelude.{◌≡◌, ◌<◌, ◌+ℤ◌, ◌*ℤ◌};
 ghost use Rattle.std.specs.Int.{w64};
 ghost use Rattle.std.proofs.Common.{SFits};

@@ -10,7 +10,7 @@ use law::ReadingAnswer;
 use quantity::{Nanoohm, Refusal};
 
 // Whether an import or a withdrawal was accepted. A refused one leaves the table as it was.
-#[derive(Drop)]
+#[derive(Clone, Copy)]
 pub enum Change {
     Made,
     Refused(Refusal),

@@ -1,5 +1,7 @@
 // The examination of a table and of an imported list, entry by entry and by value: what is noted of them, and what an import, a withdrawal and a reading then
 // answer.
+#![tactic(auto)]
+
 mod answering;
 mod testing;
 

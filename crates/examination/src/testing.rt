@@ -5,7 +5,7 @@ ghost use Rattle.examination.specs.Testing.{seen as seen_with, noted as noted_wi
 use entry::{Entry, clashes, is_bad, is_free, is_unknown, is_unsound};
 
 // Of a table: whether it holds a thermometer twice or a bad certificate, and how many places are free.
-#[derive(Drop)]
+#[derive(Clone, Copy)]
 pub struct Seen {
     pub bad: bool,
     pub places: u64,
@@ -13,7 +13,7 @@ pub struct Seen {
 
 // Of a list: whether some certificate is of unknown law, or not sound; whether some thermometer is 0 or there twice; whether some serial has two
 // certificates; whether there was no place for some new thermometer; and how many places are left.
-#[derive(Drop)]
+#[derive(Clone, Copy)]
 pub struct Noted {
     pub unknown: bool,
     pub unsound: bool,

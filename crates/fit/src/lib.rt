@@ -1,4 +1,6 @@
 // The fit: the coefficients that the used cells give. Every product or quotient is rounded down once, to 10^-11.
+#![tactic(auto)]
+
 ghost use Rattle.std.specs.Prelude.{◌≡◌, [], ◌∷◌, ◌<◌, ◌≤◌, ◌*◌, ◌^◌, false, ltb, pos, nat_abs, ◌+ℤ◌, ◌-ℤ◌, ◌<ℤ◌};
 ghost use Rattle.quantity.specs.Quantities.{one};
 ghost use Rattle.deviation.specs.Limits.{largest_coefficient};
@@ -10,7 +12,7 @@ use deviation::{LARGEST_COEFFICIENT, ONE, Places, plain_deviation};
 use quantity::Ratio;
 
 // A used cell: x = W - 1 and its deviation.
-#[derive(Drop)]
+#[derive(Clone, Copy)]
 pub struct Point {
     pub x: i64,
     pub delta: i64,

@@ -1,4 +1,6 @@
 // Answers a list of readings: standard input to standard output.
+#![tactic(auto)]
+
 mod page;
 
 use list::Desk;

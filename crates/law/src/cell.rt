@@ -4,7 +4,7 @@ ghost use Rattle.law.specs.Cells.{step as step_of, Wr};
 
 use quantity::Celsius;
 
-#[derive(Drop)]
+#[derive(Clone, Copy)]
 pub enum Cell {
     Hg,
     Ga,

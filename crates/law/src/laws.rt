@@ -6,14 +6,14 @@ ghost use Rattle.law.specs.Listed.{named_law};
 use crate::name::Name;
 use crate::subrange::{NamedSubrange, Subrange};
 
-#[derive(Drop)]
+#[derive(Clone, Copy)]
 pub enum Law {
     Curve,
     Scale(Subrange),
 }
 
 // The law that a name names.
-#[derive(Drop)]
+#[derive(Clone, Copy)]
 pub enum NamedLaw {
     Known(Law),
     Unknown,

@@ -1,4 +1,6 @@
 // Names, fixed-point cells, subranges and laws, and answers that name the law by which they were given.
+#![tactic(auto)]
+
 mod answer;
 mod cell;
 mod laws;

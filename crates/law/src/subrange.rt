@@ -8,7 +8,7 @@ use crate::name::Name;
 use quantity::Celsius;
 
 // The cells that a subrange needs, from the lowest up.
-#[derive(Drop)]
+#[derive(Clone, Copy)]
 pub enum Cells {
     One(Cell),
     Two(Cell, Cell),
@@ -17,7 +17,7 @@ pub enum Cells {
 }
 
 // The form of a deviation function: powers of W - 1, as many as there are coefficients; to silver, three of them and d(W - W(Al))² from aluminium up.
-#[derive(Drop)]
+#[derive(Clone, Copy)]
 pub enum Form {
     Powers,
     PowersToSilver,
@@ -35,7 +35,7 @@ impl Form {
     }
 }
 
-#[derive(Drop)]
+#[derive(Clone, Copy)]
 pub struct Ga;
 
 impl Ga {
@@ -68,7 +68,7 @@ impl Ga {
     }
 }
 
-#[derive(Drop)]
+#[derive(Clone, Copy)]
 pub struct In;
 
 impl In {
@@ -101,7 +101,7 @@ impl In {
     }
 }
 
-#[derive(Drop)]
+#[derive(Clone, Copy)]
 pub struct Sn;
 
 impl Sn {
@@ -134,7 +134,7 @@ impl Sn {
     }
 }
 
-#[derive(Drop)]
+#[derive(Clone, Copy)]
 pub struct Zn;
 
 impl Zn {
@@ -167,7 +167,7 @@ impl Zn {
     }
 }
 
-#[derive(Drop)]
+#[derive(Clone, Copy)]
 pub struct Al;
 
 impl Al {
@@ -200,7 +200,7 @@ impl Al {
     }
 }
 
-#[derive(Drop)]
+#[derive(Clone, Copy)]
 pub struct Ag;
 
 impl Ag {
@@ -233,7 +233,7 @@ impl Ag {
     }
 }
 
-#[derive(Drop)]
+#[derive(Clone, Copy)]
 pub enum Subrange {
     Ga,
     In,
@@ -244,7 +244,7 @@ pub enum Subrange {
 }
 
 // The subrange that a name names.
-#[derive(Drop)]
+#[derive(Clone, Copy)]
 pub enum NamedSubrange {
     Known(Subrange),
     Unknown,

@@ -11,14 +11,14 @@ use quantity::Refusal;
 use text::Fault;
 
 // What was answered to a line: the number, 0 where the line is read, and how many bytes of the buffer were written.
-#[derive(Drop)]
+#[derive(Clone, Copy)]
 pub struct LineAnswer {
     pub code: u8,
     pub wrote: usize,
 }
 
 // The same, and whether the answer fitted in the buffer.
-#[derive(Drop)]
+#[derive(Clone, Copy)]
 pub struct Placing {
     pub answer: LineAnswer,
     pub fitted: bool,

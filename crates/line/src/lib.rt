@@ -1,4 +1,6 @@
 // The answer to one line of a list, written into a lent buffer.
+#![tactic(auto)]
+
 mod lent;
 mod readings;
 

@@ -1,4 +1,6 @@
 // Where a line of the input ends, and what is held of a partial line.
+#![tactic(auto)]
+
 ghost use Rattle.std.specs.Prelude.{◌≡◌, ◌++◌, ◌+◌, ◌-◌, ◌≤◌, ◌<◌, length, take, drop};
 ghost use Rattle.whole.specs.Any.{any};
 ghost use Rattle.lines.specs.Held.{most_held, Appended};

@@ -13,7 +13,7 @@ use lines::MOST_HELD;
 
 // What a feeding did: the new state, how many bytes of the chunk it used and how many of the buffer it wrote, the tally of the lines that ended, and the
 // code: 11 where it left bytes of the chunk because the buffer was too short for a line's answer, else 0.
-#[derive(Drop)]
+#[derive(Clone, Copy)]
 pub struct Fed {
     pub state: State,
     pub used: usize,
@@ -23,7 +23,7 @@ pub struct Fed {
 }
 
 // A place between two lines: what comes next, how much of the chunk is used and of the buffer written, and the tally of the lines that ended.
-#[derive(Drop)]
+#[derive(Clone, Copy)]
 pub struct Place {
     pub stage: Stage,
     pub used: usize,

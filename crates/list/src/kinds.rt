@@ -5,7 +5,7 @@ ghost use Rattle.list.specs.Kinds.{headed, stated_kind};
 use crate::header::same_bytes;
 
 // A list of readings, of records of ratios or of resistances, of steps to be taken forward, or of tolerance tests.
-#[derive(Drop)]
+#[derive(Clone, Copy)]
 pub enum Kind {
     Readings,
     Records,
@@ -15,13 +15,13 @@ pub enum Kind {
 }
 
 // Whose list it is: the launch's are readings, the bench's all others.
-#[derive(Drop)]
+#[derive(Clone, Copy)]
 pub enum Desk {
     Launch,
     Bench,
 }
 
-#[derive(Drop)]
+#[derive(Clone, Copy)]
 pub enum Headed {
     As(Kind),
     Unknown,

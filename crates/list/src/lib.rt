@@ -1,4 +1,6 @@
 // A whole list, fed in chunks of any size and answered into buffers of any size, with constant memory.
+#![tactic(auto)]
+
 mod feeding;
 mod header;
 mod kinds;

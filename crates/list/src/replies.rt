@@ -13,7 +13,7 @@ use line::{LineAnswer, Placing};
 use quantity::Refusal;
 
 // What was answered to a line, and what comes after it.
-#[derive(Drop)]
+#[derive(Clone, Copy)]
 pub struct Reply {
     pub placing: Placing,
     pub stage: Stage,

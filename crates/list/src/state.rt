@@ -5,7 +5,7 @@ use crate::kinds::{Desk, Kind};
 use lines::MOST_HELD;
 
 // What is due to the next line: it is the header of one of the desk's lists, it is a row, or nothing is read any more.
-#[derive(Drop)]
+#[derive(Clone, Copy)]
 pub enum Stage {
     Header(Desk),
     Rows(Kind),
@@ -13,7 +13,7 @@ pub enum Stage {
 }
 
 // What is held of a partial line, in the first `count` bytes, and the stage. A `count` past the array is its length.
-#[derive(Drop)]
+#[derive(Clone, Copy)]
 pub struct State {
     pub held: [u8; MOST_HELD],
     pub count: usize,

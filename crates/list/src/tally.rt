@@ -6,7 +6,7 @@ use quantity::Refusal;
 
 // All lines that ended, those of them that were refused, and those of these that are faulty: no rows, or no header. A header is a line too. After a wrong header
 // nothing is answered any more, and each line counts with the number 0.
-#[derive(Drop)]
+#[derive(Clone, Copy)]
 pub struct Tally {
     pub lines: usize,
     pub refused: usize,

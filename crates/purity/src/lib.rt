@@ -1,4 +1,6 @@
 // Purity of the platinum, by the ratios at mercury, gallium and silver, 0 where a cell was not measured.
+#![tactic(auto)]
+
 ghost use Rattle.std.specs.Prelude.{◌≡◌};
 ghost use Rattle.purity.specs.Purity.{by_gallium_or_mercury, by_silver, pure};
 

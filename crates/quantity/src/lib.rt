@@ -1,4 +1,6 @@
 // The quantities of the scope document as types of their own, so that no count is taken for another, and the numbers of the refusals.
+#![tactic(auto)]
+
 mod refusal;
 mod resistance;
 mod temperature;

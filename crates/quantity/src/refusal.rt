@@ -3,7 +3,7 @@ ghost use Rattle.std.specs.Prelude.{◌≡◌};
 ghost use Rattle.quantity.specs.Refusals.{number_of};
 
 // Why there is no answer. One case for each row of the scope document's table, then those of the requests, by their numbers.
-#[derive(Drop)]
+#[derive(Clone, Copy)]
 pub enum Refusal {
     ResistanceOutside,
     RatioAbove,

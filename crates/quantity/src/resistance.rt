@@ -7,14 +7,14 @@ ghost use Rattle.quantity.specs.Ratios.{ratio_rule, stated};
 use crate::refusal::Refusal;
 
 // Whole nanoohms.
-#[derive(Drop)]
+#[derive(Clone, Copy)]
 pub struct Nanoohm(pub u64);
 
 // Whole units of 10^-9.
-#[derive(Drop)]
+#[derive(Clone, Copy)]
 pub struct Ratio(pub u64);
 
-#[derive(Drop)]
+#[derive(Clone, Copy)]
 pub enum RatioAnswer {
     Ratio(Ratio),
     Refused(Refusal),
@@ -34,7 +34,7 @@ fn within(x: u64, least: u64, most: u64) -> bool
 }
 
 // A quotient, and what is left.
-#[derive(Drop)]
+#[derive(Clone, Copy)]
 struct Divided {
     quotient: u64,
     left: u64,

@@ -3,11 +3,11 @@ ghost use Rattle.std.specs.Prelude.{◌≡◌, pos, ◌≤ℤ◌};
 ghost use Rattle.quantity.specs.Quantities.{kelvin_of};
 
 // Steps from 0 °C.
-#[derive(Drop)]
+#[derive(Clone, Copy)]
 pub struct Celsius(pub i64);
 
 // Steps from absolute zero.
-#[derive(Drop)]
+#[derive(Clone, Copy)]
 pub struct Kelvin(pub u64);
 
 // 0 °C in kelvin steps.

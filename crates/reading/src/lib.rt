@@ -1,4 +1,6 @@
 // Readings by the scale or by the curve, forward from a step to its ratio, and tolerance tests. Each answer says by which law it was given.
+#![tactic(auto)]
+
 mod from_resistance;
 mod from_step;
 

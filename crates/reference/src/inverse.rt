@@ -5,7 +5,7 @@ use crate::search::search;
 use quantity::Celsius;
 
 // Where a value lies among the working values: under the one at 0 °C, at a step, or at or over the one past the last step.
-#[derive(Drop)]
+#[derive(Clone, Copy)]
 pub enum Inverse {
     Below,
     At(Celsius),

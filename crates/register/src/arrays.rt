@@ -14,7 +14,7 @@ use law::ReadingAnswer;
 use quantity::Nanoohm;
 
 // The table after an import or a withdrawal, and its answer.
-#[derive(Drop)]
+#[derive(Clone, Copy)]
 pub struct After {
     pub table: [Entry; 4],
     pub change: Change,

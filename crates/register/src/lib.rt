@@ -1,4 +1,6 @@
 // The register: certificates in a lent table of entries, one for each thermometer. A withdrawn certificate stays withdrawn, whatever is imported.
+#![tactic(auto)]
+
 mod arrays;
 mod imports;
 mod readings;

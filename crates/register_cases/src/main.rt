@@ -1,5 +1,7 @@
 // Cases of the register: sequences of imports, withdrawals and readings over a table of four places, each with the table after it. The second program
 // makes what is expected (second/register_cases.py, where the family of cases is described).
+#![tactic(auto)]
+
 ghost use Rattle.std.specs.Prelude.{◌≤◌};
 
 use certificate::Given;
@@ -13,14 +15,14 @@ use reading::ReadingAnswer;
 // ---- entries
 
 // An entry and the generator after it.
-#[derive(Drop)]
+#[derive(Clone, Copy)]
 struct Lot {
     generator: Generator,
     entry: Entry,
 }
 
 // A table or a list, and the generator after it.
-#[derive(Drop)]
+#[derive(Clone, Copy)]
 struct Lots {
     generator: Generator,
     entries: [Entry; 4],
@@ -231,7 +233,7 @@ fn table_text(line: &mut [u8], from: usize, table: [Entry; 4]) -> usize {
 // ---- acts
 
 // The table after an act, the generator after it, and the length of its line.
-#[derive(Drop)]
+#[derive(Clone, Copy)]
 struct Done {
     generator: Generator,
     table: [Entry; 4],

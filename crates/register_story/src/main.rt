@@ -1,5 +1,7 @@
 // The register's story: a certificate that was withdrawn stays withdrawn when an import brings it back, and a newer one takes its place. The second
 // program makes what is expected (second/register_story.py).
+#![tactic(auto)]
+
 use certificate::Given;
 use entry::{Entry, Serial, Thermometer};
 use evidence::{ONE, given_by, say, say_law, say_natural, say_refused, say_signed};

@@ -16,14 +16,14 @@ use text::{
 pub const FORWARD_COLUMNS: usize = 8;
 
 // `names` is how many bytes the first two fields take, with the comma after each.
-#[derive(Drop)]
+#[derive(Clone, Copy)]
 pub struct ForwardRow {
     pub names: usize,
     pub certificate: Given,
     pub step: Celsius,
 }
 
-#[derive(Drop)]
+#[derive(Clone, Copy)]
 pub enum ForwardParsed {
     Row(ForwardRow),
     NoRow(Fault),

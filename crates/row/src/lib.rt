@@ -1,4 +1,6 @@
 // The rows of each kind of list: what a line says by its columns, or why it is no row.
+#![tactic(auto)]
+
 mod digits;
 mod forward;
 mod readings;

@@ -16,7 +16,7 @@ use text::{
 pub const READING_COLUMNS: usize = 9;
 
 // `names` is how many bytes the id and the law take, with the comma after each: they stand at the line's start.
-#[derive(Drop)]
+#[derive(Clone, Copy)]
 pub struct ReadingRow {
     pub names: usize,
     pub certificate: Given,
@@ -24,7 +24,7 @@ pub struct ReadingRow {
     pub r0: Nanoohm,
 }
 
-#[derive(Drop)]
+#[derive(Clone, Copy)]
 pub enum ReadingParsed {
     Row(ReadingRow),
     NoRow(Fault),

@@ -13,13 +13,13 @@ use text::{Fault, Holds, LONGEST_LINE, MOST_COLUMNS, after_id, fault_in, name_at
 pub const RECORD_COLUMNS: usize = 9;
 
 // `names` is how many bytes the first two fields take, with the comma after each.
-#[derive(Drop)]
+#[derive(Clone, Copy)]
 pub struct RecordRow {
     pub names: usize,
     pub cells: Record,
 }
 
-#[derive(Drop)]
+#[derive(Clone, Copy)]
 pub enum RecordParsed {
     Row(RecordRow),
     NoRow(Fault),

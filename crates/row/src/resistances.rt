@@ -13,13 +13,13 @@ use text::{Fault, Holds, LONGEST_LINE, MOST_COLUMNS, after_id, fault_in, name_at
 pub const RESISTANCES_COLUMNS: usize = 16;
 
 // `names` is how many bytes the first two fields take, with the comma after each.
-#[derive(Drop)]
+#[derive(Clone, Copy)]
 pub struct ResistancesRow {
     pub names: usize,
     pub cells: Resistances,
 }
 
-#[derive(Drop)]
+#[derive(Clone, Copy)]
 pub enum ResistancesParsed {
     Row(ResistancesRow),
     NoRow(Fault),
@@ -57,7 +57,7 @@ fn no_row(line: &[u8]) -> ResistancesParsed
 }
 
 // The two resistances of a cell, and where the next field starts.
-#[derive(Drop)]
+#[derive(Clone, Copy)]
 pub struct PairAt {
     pub pair: Pair,
     pub next: usize,

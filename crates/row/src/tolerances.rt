@@ -13,7 +13,7 @@ use text::{
 pub const TOLERANCE_COLUMNS: usize = 5;
 
 // `names` is how many bytes the first two fields take, with the comma after each.
-#[derive(Drop)]
+#[derive(Clone, Copy)]
 pub struct ToleranceRow {
     pub names: usize,
     pub class: u8,
@@ -22,7 +22,7 @@ pub struct ToleranceRow {
     pub r0: Nanoohm,
 }
 
-#[derive(Drop)]
+#[derive(Clone, Copy)]
 pub enum ToleranceParsed {
     Row(ToleranceRow),
     NoRow(Fault),

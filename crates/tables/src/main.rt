@@ -1,4 +1,6 @@
 // Published tables beside what the library's calls answer. The second program makes what is expected (second/tables.py).
+#![tactic(auto)]
+
 mod iec;
 mod its90;
 mod tally;

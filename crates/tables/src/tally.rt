@@ -3,7 +3,7 @@ use evidence::{ONE, say, say_natural};
 use std::num::wrapping_add_u64;
 
 // How many published figures agree and how many differ.
-#[derive(Drop)]
+#[derive(Clone, Copy)]
 pub struct Tally {
     pub agree: u64,
     pub differ: u64,

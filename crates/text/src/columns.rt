@@ -13,7 +13,7 @@ use crate::number::{number_at, signed_at};
 pub const MOST_COLUMNS: usize = 16;
 
 // An id, a name, a letter, a number from 0 up or a number of either sign, these two of at most so many digits.
-#[derive(Drop)]
+#[derive(Clone, Copy)]
 pub enum Holds {
     Id,
     Name,
@@ -23,7 +23,7 @@ pub enum Holds {
 }
 
 // The line is too long, it has not as many fields as there are columns, or the field with this number, counted from 1, breaks its rule.
-#[derive(Drop)]
+#[derive(Clone, Copy)]
 pub enum Fault {
     TooLong,
     WrongCount,
@@ -31,7 +31,7 @@ pub enum Fault {
 }
 
 // A line's fault, or that it has none.
-#[derive(Drop)]
+#[derive(Clone, Copy)]
 pub enum Faulty {
     By(Fault),
     No,

@@ -7,7 +7,7 @@ ghost use Rattle.text.specs.Scanned.{ends, closes_at, nowhere, scanned_if};
 pub const LONGEST_LINE: usize = 200;
 
 // What a field says, 0 where it breaks its rule, and where the next field starts.
-#[derive(Drop)]
+#[derive(Clone, Copy)]
 pub struct Scanned {
     pub value: u64,
     pub next: usize,

@@ -1,4 +1,6 @@
 // Text: the fields of a line read, and numbers written into a lent buffer. It knows no thermometry.
+#![tactic(auto)]
+
 mod columns;
 mod decimal;
 mod field;

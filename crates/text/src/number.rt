@@ -12,7 +12,7 @@ use crate::field::Scanned;
 const MOST_DIGITS: usize = 18;
 
 // What a field that may have a minus says, 0 where it breaks its rule, and where the next field starts.
-#[derive(Drop)]
+#[derive(Clone, Copy)]
 pub struct Signed {
     pub value: i64,
     pub next: usize,

@@ -1,7 +1,7 @@
 // What a program was asked by its arguments.
 
 // To answer a list, which takes no argument, or --status, by which the status is written too; for its page, by --help alone; or what it does not take.
-#[derive(Drop)]
+#[derive(Clone, Copy)]
 pub enum Asked {
     List,
     ListAndStatus,

@@ -1,5 +1,7 @@
 // What the programs over lists share: what they were asked, the turns from standard input to standard output, and what is said to people: of a wrong header, of
 // rows, and how many there were.
+#![tactic(auto)]
+
 mod asked;
 mod faults;
 mod fields;

@@ -12,7 +12,7 @@ use text::{Fault, Faulty};
 const LOOKED_AT: usize = MOST_HELD - 1;
 
 // The line holds a LF without CR; or it is no row; or it is a record that is refused for a cell, each case by one test, or for a coefficient.
-#[derive(Drop)]
+#[derive(Clone, Copy)]
 pub enum Remark {
     LoneFeed,
     NoRow(Fault),

@@ -13,7 +13,7 @@ use list::{Desk, Kind, Stage, State, Tally};
 const MOST_SAID: u64 = 100;
 
 // How many lines there were, those refused among them, and of how many something was said.
-#[derive(Drop)]
+#[derive(Clone, Copy)]
 pub struct Counts {
     pub lines: u64,
     pub refused: u64,

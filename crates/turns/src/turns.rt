@@ -10,7 +10,7 @@ use libc::{STDIN_FILENO, STDOUT_FILENO};
 use list::{Desk, Stage, State};
 
 // What comes after a turn: more input, its end, or nothing, where the header was wrong or a call failed.
-#[derive(Drop)]
+#[derive(Clone, Copy)]
 pub enum Next {
     Read,
     Finish,
@@ -19,7 +19,7 @@ pub enum Next {
 }
 
 // The state after a turn, the first bytes of the input, the lines so far, and what comes next.
-#[derive(Drop)]
+#[derive(Clone, Copy)]
 pub struct Turn {
     pub state: State,
     pub first: Kept,

@@ -27,11 +27,13 @@ pub data Member {A : Type 0} (x : A) : List A → Type 0 where
   there : {y : A} {xs : List A} → Member x xs → Member x (y ∷ xs)
 
 pub of_every : {A : Type 0} (test : A → Bool) (x : A) (xs : List A) → Member x xs → every test xs ≡ true → test x ≡ true
+of_every {A = A} test x [] x3 e = elim x3 [ ]
 of_every test x (y ∷ xs) here e = (and_true (test x) (every test xs) e).0
 of_every test x (y ∷ xs) (there m) e = of_every test x xs m (and_true (test y) (every test xs) e).1
 
 -- where no member passes, this one does not
 pub of_none : {A : Type 0} (test : A → Bool) (x : A) (xs : List A) → Member x xs → any test xs ≡ false → test x ≡ false
+of_none {A = A} test x [] x3 e = elim x3 [ ]
 of_none test x (y ∷ xs) here e = (or_false (test x) (any test xs) e).0
 of_none test x (y ∷ xs) (there m) e = of_none test x xs m (or_false (test y) (any test xs) e).1
 
@@ -46,5 +48,6 @@ of_any {A} test (x ∷ xs) e = by (test x) refl e (λ e. of_any test xs e)
 
 -- two functions that agree over the list agree at each member
 pub of_map : {A B : Type 0} (f g : A → B) (x : A) (xs : List A) → Member x xs → map f xs ≡ map g xs → f x ≡ g x
+of_map {A = A} {B = B} f g x [] x3 e = elim x3 [ ]
 of_map f g x (y ∷ xs) here e = cc
 of_map f g x (y ∷ xs) (there m) e = of_map f g x xs m (cc)

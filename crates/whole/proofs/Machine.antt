@@ -22,7 +22,7 @@ is_false false h = refl
 
 -- a call's result, read back from its bits
 pub back : (z : ℤ) → mag z < 2 ^ 63 → to_z w64 (of_z w64 z) ≡ z
-back z h = to_z-of_z (record { sfits = h })
+back z h = to_z-of_z {w = w64} (record { sfits = h })
 
 -- what a passed or failed test says
 pub le_yes : {a b : ℤ} {t : Bool} → t ≡ le_z a b → t ≡ true → a ≤ℤ b
