@@ -36,7 +36,7 @@ def snake(run):
     """A run of letters that begins small and has a capital later, in snake case."""
     if not re.match(r"[a-z]", run) or not re.search(r"[A-Z]", run):
         return run
-    return re.sub(r"(?<=[a-z0-9'])_?([A-Z])|_([A-Z])", lambda m: "_" + (m[1] or m[2]).lower(), run)
+    return re.sub(r"(?<=.)_?([A-Z])", lambda m: "_" + m[1].lower(), run)
 
 
 def in_snake(word):
