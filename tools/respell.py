@@ -28,6 +28,9 @@ RUN = re.compile(r"[A-Za-z0-9_']+")
 # The library's functions, of which lemmas speak.
 OF_LIBRARY = {"suc", "zero", "pos", "negsuc", "length", "take", "drop", "map", "set", "div", "mod", "append", "abs", "and", "or", "not"}
 
+# Files whose names are those of goals, which Rattle gives.
+OF_RATTLE = {"Proof.antt", "Answers.antt", "Invariants.antt"}
+
 # A name that would be the same as another that is seen beside it.
 APART = {"noRoom": "without_room"}
 
@@ -51,7 +54,7 @@ def declared():
     """The project's own definitions, lemmas and fields, with the files that declare each."""
     names = collections.defaultdict(set)
     for file in antt_files():
-        if file.name == "Proof.antt":
+        if file.name in OF_RATTLE:
             continue
         text = QUIET.sub(lambda m: " " * len(m[0]), file.read_text(encoding="utf-8"))
         for found in HEAD.finditer(text):

@@ -33,7 +33,7 @@ use Rattle.certificate.specs.declared.record.Record.{Record}
 use Rattle.certificate.specs.declared.soundness.Given.{Given}
 use Rattle.certificate.specs.Certificate.{certificate_of, sound, LawAndPlaces, no_places}
 use Rattle.certificate.specs.Record.{ratio_above, cell_missing, purity_cell_missing, impure, deviates, fitted, made, record_of}
-use Rattle.deviation.specs.Working.{plain_deviation, has_dTerm, z, d_term, deviation, Wr}
+use Rattle.deviation.specs.Working.{plain_deviation, has_d_term, z, d_term, deviation, Wr}
 use Rattle.reading.specs.Reading.{read_ratio, read_certificate}
 use Rattle.reading.proofs.LeastRatio.{reads-resistances}
 use Rattle.reading.proofs.Tests.{step_test, step-passes, refusal_test, refusal_passes}
@@ -145,6 +145,6 @@ each_holds (card ∷ more) e =
 
 -- the checker computes the test over the table
 pub cards_hold : CardsHold
-unfolding working rounded curve.exact curve.quadratic curve.quartic curve.units Wr deviation plain_deviation d_term has_dTerm z x δ keeps
+unfolding working rounded curve.exact curve.quadratic curve.quartic curve.units Wr deviation plain_deviation d_term has_d_term z x δ keeps
     ratio_above cell_missing purity_cell_missing impure deviates fitted beyond ◌·◌ ◌÷◌
 cards_hold = each_holds cards refl

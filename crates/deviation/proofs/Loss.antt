@@ -17,7 +17,7 @@ use Rattle.quantity.specs.Quantities.{one, largest_ratio}
 use Rattle.law.specs.declared.subrange.Form.{Form}
 use Rattle.deviation.specs.declared.places.Places.{Places}
 use Rattle.deviation.specs.Limits.{fine, x, Limited}
-use Rattle.deviation.specs.Working.{plain_deviation, has_dTerm, z, d_term, deviation, Wr}
+use Rattle.deviation.specs.Working.{plain_deviation, has_d_term, z, d_term, deviation, Wr}
 use Rattle.deviation.specs.Exact.{exact_ratio, exact_deviation, exact_wr}
 use Rattle.deviation.specs.Promised.{rounding, Near}
 use Rattle.deviation.proofs.Sized.{farthest, x_size, z-size}
@@ -68,7 +68,7 @@ module _ (form : Form) (k : Places) (w : ℕ) where
   silver_up = scaled one (z k w) (pos 0) (pos 0 ∷ k.d ∷ [])
 
   silver_part : ℤ
-  silver_part = if has_dTerm form k w then silver_up *ℤ pos one else pos 0
+  silver_part = if has_d_term form k w then silver_up *ℤ pos one else pos 0
 
   is_plain : Is (integer k.a *ᶠ exact_ratio (x w) +ᶠ integer k.b *ᶠ exact_ratio (x w) ^ᶠ 2 +ᶠ integer k.c *ᶠ exact_ratio (x w) ^ᶠ 3) plain_up cubed
   unfolding plain_up scaled
@@ -90,7 +90,7 @@ module _ (form : Form) (k : Places) (w : ℕ) where
 
   pub is-deviation : Is (exact_deviation form k w) scaled_deviation cubed
   unfolding exact_deviation silver_part scaled_deviation
-  is-deviation = is_add is_plain (by (has_dTerm form k w))
+  is-deviation = is_add is_plain (by (has_d_term form k w))
     where
       by : (t : Bool) → Is (if t then integer k.d *ᶠ exact_ratio (z k w) ^ᶠ 2 else integer (pos 0)) (if t then silver_up *ℤ pos one else pos 0) cubed
       by true = is-silver
@@ -103,9 +103,9 @@ module _ (form : Form) (k : Places) (w : ℕ) where
 
     silver-lost : nat_abs (d_term form k w *ℤ pos cubed -ℤ silver_part) ≤ 2_030_000_000_000_000_000_000_000_000
     unfolding d_term silver_part silver_up loss
-    silver-lost = by (has_dTerm form k w) refl
+    silver-lost = by (has_d_term form k w) refl
       where
-        by : (t : Bool) → has_dTerm form k w ≡ t → nat_abs ((if t then rounded one (z k w) (pos 0) (pos 0 ∷ k.d ∷ []) else pos 0) *ℤ pos cubed -ℤ (if t then scaled one (z k w) (pos 0) (pos 0 ∷ k.d ∷ []) *ℤ pos one else pos 0)) ≤ 2_030_000_000_000_000_000_000_000_000
+        by : (t : Bool) → has_d_term form k w ≡ t → nat_abs ((if t then rounded one (z k w) (pos 0) (pos 0 ∷ k.d ∷ []) else pos 0) *ℤ pos cubed -ℤ (if t then scaled one (z k w) (pos 0) (pos 0 ∷ k.d ∷ []) *ℤ pos one else pos 0)) ≤ 2_030_000_000_000_000_000_000_000_000
         by true e =
             let q = rounded one (z k w) (pos 0) (pos 0 ∷ k.d ∷ []) in
             let y = scaled one (z k w) (pos 0) (pos 0 ∷ k.d ∷ []) in
@@ -160,15 +160,15 @@ beside v d D n T h =
       omega (ints, h, r, a, b, m, q, add_parts ((v -ℤ d) *ℤ pos T) (pos n *ℤ pos T)),
     )
 
-pub is_Wr : (form : Form) (k : Places) (w : ℕ) → Is (exact_wr form k w) (pos (fine * w) *ℤ pos cubed -ℤ scaled_deviation form k w) cubed
+pub is_wr : (form : Form) (k : Places) (w : ℕ) → Is (exact_wr form k w) (pos (fine * w) *ℤ pos cubed -ℤ scaled_deviation form k w) cubed
 unfolding exact_wr
-is_Wr form k w = is_sub (is_integer (pos (fine * w)) cubed) (is-deviation form k w)
+is_wr form k w = is_sub (is_integer (pos (fine * w)) cubed) (is-deviation form k w)
 
 pub close : Near
 unfolding Wr
 close form k s w h =
     let b = beside (pos (fine * w)) (deviation form k w) (scaled_deviation form k w) rounding cubed (deviation-lost form k w s h) in
     record {
-      over_by_less = is-< (is_integer (Wr form k w) cubed) (is_add (is_Wr form k w) (is_integer (pos rounding) cubed)) (omega arith) b.0;
-      under_by_less = is-< (is_Wr form k w) (is_add (is_integer (Wr form k w) cubed) (is_integer (pos rounding) cubed)) (omega arith) b.1;
+      over_by_less = is-< (is_integer (Wr form k w) cubed) (is_add (is_wr form k w) (is_integer (pos rounding) cubed)) (omega arith) b.0;
+      under_by_less = is-< (is_wr form k w) (is_add (is_integer (Wr form k w) cubed) (is_integer (pos rounding) cubed)) (omega arith) b.1;
     }

@@ -21,7 +21,7 @@ use Rattle.law.specs.Cells as cells
 use Rattle.law.specs.Subranges.{to_silver}
 use Rattle.deviation.specs.declared.places.Places.{Places}
 use Rattle.deviation.specs.Limits.{x, δ, within, largest_coefficient, Small, Limited}
-use Rattle.deviation.specs.Working.{plain_deviation, has_dTerm, z, d_term, deviation}
+use Rattle.deviation.specs.Working.{plain_deviation, has_d_term, z, d_term, deviation}
 use Rattle.deviation.proofs.Limits as limits
 
 -- ---- the working deviation by a, b, c, where |x| is at most 3.4
@@ -59,20 +59,20 @@ pub aluminium : (form : Form) (k : Places) → Limited form k → to_silver form
 aluminium form k s e = near_aluminium k.wal.0 (s.aluminium e)
 
 -- ---- where there is a d term
-pub counted : (form : Form) (k : Places) (w : ℕ) → has_dTerm form k w ≡ true → (to_silver form ≡ true) × (k.wal.0 ≤ w)
-unfolding has_dTerm
+pub counted : (form : Form) (k : Places) (w : ℕ) → has_d_term form k w ≡ true → (to_silver form ≡ true) × (k.wal.0 ≤ w)
+unfolding has_d_term
 counted form k w e =
     let h = and_true (to_silver form) (leb k.wal.0 w) e in
     (h.0, leb-true k.wal.0 w h.1)
 
 -- from one ratio to the next the d term can start to count, at z = 0, and never stops
 pub data Next (form : Form) (k : Places) (w : ℕ) : Type 0 where
-  neither : has_dTerm form k w ≡ false → has_dTerm form k (suc w) ≡ false → Next form k w
-  starts : has_dTerm form k w ≡ false → has_dTerm form k (suc w) ≡ true → k.wal.0 ≡ suc w → Next form k w
-  both : has_dTerm form k w ≡ true → has_dTerm form k (suc w) ≡ true → Next form k w
+  neither : has_d_term form k w ≡ false → has_d_term form k (suc w) ≡ false → Next form k w
+  starts : has_d_term form k w ≡ false → has_d_term form k (suc w) ≡ true → k.wal.0 ≡ suc w → Next form k w
+  both : has_d_term form k w ≡ true → has_d_term form k (suc w) ≡ true → Next form k w
 
 pub next : (form : Form) (k : Places) (w : ℕ) → Next form k w
-unfolding has_dTerm
+unfolding has_d_term
 next form k w = by (to_silver form) refl (leb k.wal.0 w) refl (leb k.wal.0 (suc w)) refl
   where
     by : (s : Bool) → to_silver form ≡ s → (a : Bool) → leb k.wal.0 w ≡ a → (b : Bool) → leb k.wal.0 (suc w) ≡ b → Next form k w
@@ -97,16 +97,16 @@ module _ (form : Form) (k : Places) (s : Limited form k) where
     pub x_size : nat_abs (x w) ≤ farthest
     x_size = omega (arith, limits.x_size w h)
 
-    pub z-size : has_dTerm form k w ≡ true → nat_abs (z k w) ≤ 1_030_000_000
+    pub z-size : has_d_term form k w ≡ true → nat_abs (z k w) ≤ 1_030_000_000
     z-size e =
         let c = counted form k w e in
         omega (arith, aluminium form k s c.0, c.1, z_parts k w, abs_parts (z k w), one_part (z k w))
 
     pub silver-size : nat_abs (d_term form k w) ≤ 200_000_000
     unfolding d_term size
-    silver-size = by (has_dTerm form k w) refl
+    silver-size = by (has_d_term form k w) refl
       where
-        by : (t : Bool) → has_dTerm form k w ≡ t → nat_abs (if t then rounded one (z k w) (pos 0) (pos 0 ∷ k.d ∷ []) else pos 0) ≤ 200_000_000
+        by : (t : Bool) → has_d_term form k w ≡ t → nat_abs (if t then rounded one (z k w) (pos 0) (pos 0 ∷ k.d ∷ []) else pos 0) ≤ 200_000_000
         by true e = omega (arith, abs-rounded one 1_030_000_000 (omega arith) (z k w) (z-size e) (pos 0) 0 (omega arith) od)
         by false e = omega arith
 

@@ -5,7 +5,7 @@ use Rattle.exact.specs.Fraction.{Fraction, decimal, integer, ◌+ᶠ◌, ◌-ᶠ
 use Rattle.law.specs.declared.subrange.Form.{Form}
 use Rattle.deviation.specs.declared.places.Places.{Places}
 use Rattle.deviation.specs.Limits.{fine, x}
-use Rattle.deviation.specs.Working.{has_dTerm, z}
+use Rattle.deviation.specs.Working.{has_d_term, z}
 
 -- A whole number of 10^-9.
 abbrev pub exact_ratio : ℤ → Fraction
@@ -15,7 +15,7 @@ exact_ratio n = decimal n 9
 unfoldable pub exact_deviation : Form → Places → ℕ → Fraction
 exact_deviation form k w =
     integer k.a *ᶠ exact_ratio (x w) +ᶠ integer k.b *ᶠ exact_ratio (x w) ^ᶠ 2 +ᶠ integer k.c *ᶠ exact_ratio (x w) ^ᶠ 3
-    +ᶠ (if has_dTerm form k w then integer k.d *ᶠ exact_ratio (z k w) ^ᶠ 2 else integer (pos 0))
+    +ᶠ (if has_d_term form k w then integer k.d *ᶠ exact_ratio (z k w) ^ᶠ 2 else integer (pos 0))
 
 -- W less the exact deviation.
 unfoldable pub exact_wr : Form → Places → ℕ → Fraction

@@ -14,8 +14,8 @@ unfoldable pub plain_deviation : Places → ℤ → ℤ
 plain_deviation k x = rounded one x (pos 0) (k.a ∷ k.b ∷ k.c ∷ [])
 
 -- There is a d term for ag, where W is at or above W(Al). Below W(Al) there is none (ITS-90 3.3.2).
-unfoldable pub has_dTerm : Form → Places → ℕ → Bool
-has_dTerm form k w = to_silver form && leb k.wal.0 w
+unfoldable pub has_d_term : Form → Places → ℕ → Bool
+has_d_term form k w = to_silver form && leb k.wal.0 w
 
 -- z = W - W(Al)
 unfoldable pub z : Places → ℕ → ℤ
@@ -23,7 +23,7 @@ z k w = pos w -ℤ pos k.wal.0
 
 -- The d term: d·z², which is 0 + 0·z + d·z², rounded down after each of its two products.
 unfoldable pub d_term : Form → Places → ℕ → ℤ
-d_term form k w = if has_dTerm form k w then rounded one (z k w) (pos 0) (pos 0 ∷ k.d ∷ []) else pos 0
+d_term form k w = if has_d_term form k w then rounded one (z k w) (pos 0) (pos 0 ∷ k.d ∷ []) else pos 0
 
 -- The working deviation.
 unfoldable pub deviation : Form → Places → ℕ → ℤ

@@ -3,7 +3,7 @@ ghost use Rattle.std.specs.Prelude.{◌≡◌, [], ◌∷◌, ◌+◌, ◌≤◌
 ghost use Rattle.exact.specs.Polynomial.{rounded};
 ghost use Rattle.quantity.specs.Quantities.{one, largest_ratio};
 ghost use Rattle.deviation.specs.Limits.{largest_coefficient, Small, Limited};
-ghost use Rattle.deviation.specs.Working.{plain_deviation, has_dTerm, d_term, deviation as deviation_of, Wr};
+ghost use Rattle.deviation.specs.Working.{plain_deviation, has_d_term, d_term, deviation as deviation_of, Wr};
 
 use crate::limit::{FINE, ONE, offset};
 use crate::places::Places;
@@ -22,7 +22,7 @@ pub fn plain_deviation(k: Places, x: i64) -> i64
 
 // Whether there is a d term: for ag, at W(Al) and above.
 fn has_d_term(form: Form, k: Places, w: Ratio) -> bool
-    ensures { result ≡ has_dTerm form k w.0 }
+    ensures { result ≡ has_d_term form k w.0 }
 {
     let wal = k.wal;
     form.to_silver() & (wal.0 <= w.0)

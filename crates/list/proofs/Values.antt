@@ -16,7 +16,7 @@ use Rattle.quantity.specs.Outcomes.{refused, Follows}
 use Rattle.deviation.specs.Limits.{x, δ, keeps}
 use Rattle.reference.specs.Reference.{working}
 use Rattle.curve.specs.Curve.{exact, quadratic, quartic, units}
-use Rattle.deviation.specs.Working.{plain_deviation, has_dTerm, z, d_term, deviation, Wr}
+use Rattle.deviation.specs.Working.{plain_deviation, has_d_term, z, d_term, deviation, Wr}
 use Rattle.reading.specs.Reading.{read_given_up_to, read_given}
 use Rattle.reading.proofs.Tests.{step-passes}
 use Rattle.reading.proofs.Values.{zeros, given, at}
@@ -34,17 +34,17 @@ use Rattle.list.specs.declared.kinds.Desk.TheVariants.{Launch, Bench}
 use Rattle.list.specs.Kinds.{headed}
 use Rattle.list.specs.Lists.{ListAnswered}
 
-read_F1 : Follows (read_given (given (spelled "curve") 0) 138_505_500_000 100_000_000_000) (at Curve (pos 1_000_000))
+read_f1 : Follows (read_given (given (spelled "curve") 0) 138_505_500_000 100_000_000_000) (at Curve (pos 1_000_000))
 unfolding exact quadratic quartic units
-read_F1 = step-passes Curve (zeros 0) 1_385_055_000 (pos 1_000_000) refl
+read_f1 = step-passes Curve (zeros 0) 1_385_055_000 (pos 1_000_000) refl
 
-read_F2 : Follows (read_given (given (spelled "ag") 3_376_008_600) 69_539_313_500 25_000_000_000) (at (Scale Ag) (pos 4_810_000))
-unfolding working rounded Wr deviation plain_deviation d_term has_dTerm z x δ keeps
-read_F2 = step-passes (Scale Ag) (zeros 3_376_008_600) 2_781_572_540 (pos 4_810_000) refl
+read_f2 : Follows (read_given (given (spelled "ag") 3_376_008_600) 69_539_313_500 25_000_000_000) (at (Scale Ag) (pos 4_810_000))
+unfolding working rounded Wr deviation plain_deviation d_term has_d_term z x δ keeps
+read_f2 = step-passes (Scale Ag) (zeros 3_376_008_600) 2_781_572_540 (pos 4_810_000) refl
 
-read_F3 : Follows (read_given (given (spelled "zn") 0) 69_539_313_500 25_000_000_000) (refused no_step 9)
-unfolding working rounded Wr deviation plain_deviation d_term has_dTerm z x
-read_F3 = refl
+read_f3 : Follows (read_given (given (spelled "zn") 0) 69_539_313_500 25_000_000_000) (refused no_step 9)
+unfolding working rounded Wr deviation plain_deviation d_term has_d_term z x
+read_f3 = refl
 
 F1 : List ℕ
 F1 = ascii "F1,curve,138505500000,100000000000,0,0,0,0,0"
@@ -55,23 +55,23 @@ F2 = ascii "F2,ag,69539313500,25000000000,0,0,0,0,3376008600"
 F3 : List ℕ
 F3 = ascii "F3,zn,69539313500,25000000000,0,0,0,0,0"
 
-digits_of_F1 : decimal 1_000_000 ≡ ascii "1000000"
-digits_of_F1 = rw (decimal_more 1_000_000 (omega arith), decimal_more 100_000 (omega arith), decimal_more 10_000 (omega arith), decimal_more 1_000 (omega arith), decimal_more 100 (omega arith), decimal_more 10 (omega arith), decimal-one 1 (omega arith))
+digits_of_f1 : decimal 1_000_000 ≡ ascii "1000000"
+digits_of_f1 = rw (decimal_more 1_000_000 (omega arith), decimal_more 100_000 (omega arith), decimal_more 10_000 (omega arith), decimal_more 1_000 (omega arith), decimal_more 100 (omega arith), decimal_more 10 (omega arith), decimal-one 1 (omega arith))
 
-digits_of_F2 : decimal 4_810_000 ≡ ascii "4810000"
-digits_of_F2 = rw (decimal_more 4_810_000 (omega arith), decimal_more 481_000 (omega arith), decimal_more 48_100 (omega arith), decimal_more 4_810 (omega arith), decimal_more 481 (omega arith), decimal_more 48 (omega arith), decimal-one 4 (omega arith))
+digits_of_f2 : decimal 4_810_000 ≡ ascii "4810000"
+digits_of_f2 = rw (decimal_more 4_810_000 (omega arith), decimal_more 481_000 (omega arith), decimal_more 48_100 (omega arith), decimal_more 4_810 (omega arith), decimal_more 481 (omega arith), decimal_more 48 (omega arith), decimal-one 4 (omega arith))
 
 answer-F1 : Answered readings F1 0 (ascii "F1,curve,1000000,0\r\n")
 unfolding F1 well_formed fault_of fault_by values
-answer-F1 = (at Curve (pos 1_000_000), read_F1, refl, rw (digits_of_F1, decimal-one 0 (omega arith)))
+answer-F1 = (at Curve (pos 1_000_000), read_f1, refl, rw (digits_of_f1, decimal-one 0 (omega arith)))
 
 answer-F2 : Answered readings F2 0 (ascii "F2,ag,4810000,0\r\n")
 unfolding F2 well_formed fault_of fault_by values
-answer-F2 = (at (Scale Ag) (pos 4_810_000), read_F2, refl, rw (digits_of_F2, decimal-one 0 (omega arith)))
+answer-F2 = (at (Scale Ag) (pos 4_810_000), read_f2, refl, rw (digits_of_f2, decimal-one 0 (omega arith)))
 
 answer-F3 : Answered readings F3 9 (ascii "F3,zn,,9\r\n")
 unfolding F3 well_formed fault_of fault_by values
-answer-F3 = (refused no_step 9, read_F3, refl, rw (decimal-one 9 (omega arith)))
+answer-F3 = (refused no_step 9, read_f3, refl, rw (decimal-one 9 (omega arith)))
 
 pub example : ListAnswered Launch
     (ascii "id,law,r,r0,a,b,c,d,wal\r\nF1,curve,138505500000,100000000000,0,0,0,0,0\r\nF2,ag,69539313500,25000000000,0,0,0,0,3376008600\r\nF3,zn,69539313500,25000000000,0,0,0,0,0\r\n")
@@ -170,13 +170,13 @@ pub was_outside : Answered (readings_up_to limits_before) Pt1000 1 (ascii "P1,cu
 unfolding fault_of fault_by values
 was_outside = (refused no_step 1, refl, refl, rw (decimal-one 1 (omega arith)))
 
-read_Pt1000 : Follows (read_given (given (spelled "curve") 0) 1_385_055_000_000 1_000_000_000_000) (at Curve (pos 1_000_000))
+read_pt1000 : Follows (read_given (given (spelled "curve") 0) 1_385_055_000_000 1_000_000_000_000) (at Curve (pos 1_000_000))
 unfolding exact quadratic quartic units
-read_Pt1000 = step-passes Curve (zeros 0) 1_385_055_000 (pos 1_000_000) refl
+read_pt1000 = step-passes Curve (zeros 0) 1_385_055_000 (pos 1_000_000) refl
 
 pub is_read : Answered readings Pt1000 0 (ascii "P1,curve,1000000,0\r\n")
 unfolding fault_of fault_by values
-is_read = (at Curve (pos 1_000_000), read_Pt1000, refl, rw (digits_of_F1, decimal-one 0 (omega arith)))
+is_read = (at Curve (pos 1_000_000), read_pt1000, refl, rw (digits_of_f1, decimal-one 0 (omega arith)))
 
 -- both at 1 kΩ, the limit that was: read before, and so still
 at_zero : Follows (read_given_up_to limits_before.largest (given (spelled "curve") 0) 1_000_000_000_000 1_000_000_000_000) (at Curve (pos 0))

@@ -14,7 +14,7 @@ use Rattle.law.specs.Answers.{LawAndStep, no_step}
 use Rattle.reference.specs.Reference.{working}
 use Rattle.curve.specs.Curve.{exact, quadratic, quartic, units}
 use Rattle.deviation.specs.declared.places.Places.{Places}
-use Rattle.deviation.specs.Working.{plain_deviation, has_dTerm, z, d_term, deviation, Wr}
+use Rattle.deviation.specs.Working.{plain_deviation, has_d_term, z, d_term, deviation, Wr}
 use Rattle.deviation.specs.Limits.{x}
 use Rattle.certificate.specs.declared.soundness.Given.{Given}
 use Rattle.reading.specs.Reading.{read_given}
@@ -32,15 +32,15 @@ at law t = answered (record { law = some law; step = t })
 
 -- ---- R/R0 = 0.999 960 109 5 by ga: 8 before, now 0 °C
 was_below : Follows (read_given (given (spelled "ga") 0) 999_960_109 1_000_000_000) (refused no_step 8)
-unfolding working rounded Wr deviation plain_deviation d_term has_dTerm z x
+unfolding working rounded Wr deviation plain_deviation d_term has_d_term z x
 was_below = refl
 
 is_first : Follows (read_given (given (spelled "ga") 0) 99_996_010_950 100_000_000_000) (at (Scale Ga) (pos 0))
-unfolding working rounded Wr deviation plain_deviation d_term has_dTerm z x
+unfolding working rounded Wr deviation plain_deviation d_term has_d_term z x
 is_first = step-passes (Scale Ga) (zeros 0) 999_960_110 (pos 0) refl
 
 still_below : Follows (read_given (given (spelled "ga") 0) 99_996_010_949 100_000_000_000) (refused no_step 8)
-unfolding working rounded Wr deviation plain_deviation d_term has_dTerm z x
+unfolding working rounded Wr deviation plain_deviation d_term has_d_term z x
 still_below = refl
 
 -- ---- R/R0 = 0.185 200 799 5 by the curve: 8 before, now -200 °C

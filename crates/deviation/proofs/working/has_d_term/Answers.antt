@@ -1,7 +1,7 @@
 use borrow.Author.Rules.{rules}
-use Rattle.deviation.specs.Working.{has_dTerm}
+use Rattle.deviation.specs.Working.{has_d_term}
 use Rattle.deviation.proofs.working.has_d_term.Goals as goal
 
 pub returns : goal.returns
-unfolding has_dTerm
+unfolding has_d_term
 returns c = rw c.to_silver.ensures
