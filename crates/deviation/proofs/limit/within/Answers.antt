@@ -16,7 +16,7 @@ returns-then-w-gt-LARGEST_RATIO c = sym (far _ _ c.requires c.if-w-gt-LARGEST_RA
 pub overflow_mul-result : goal.overflow_mul-result
 overflow_mul-result c =
     let is-δ : c.magnitude.result ≡ nat_abs (δ c.args.wr c.args.w.0) = rw (c.magnitude.ensures, back _ c.cell_deviation.type_inv, c.cell_deviation.ensures) in
-    let size : c.magnitude.result ≤ 440_000_000_000 = rw (is-δ) (δ-size c.args.wr c.args.w.0 c.pre (omega (arith, c.if-w-gt-LARGEST_RATIO.false))) in
+    let size : c.magnitude.result ≤ 440_000_000_000 = rw (is-δ) (δ-size c.args.wr c.args.w.0 c.requires (omega (arith, c.if-w-gt-LARGEST_RATIO.false))) in
     omega (arith, size)
 
 pub overflow_mul-result-2 : goal.overflow_mul-result-2

@@ -21,6 +21,7 @@ signed-requires-then-has_d_term c =
     omega (arith, wal-size)
 
 pub twice-requires : goal.twice-requires
+unfolding z
 twice-requires c =
     let d-fits : SFits w64 c.args.k.d = abs→fits c.args.k.d (omega (arith, c.requires.0.small.d)) in
     let yes : has_d_term c.args.form c.args.k c.args.w.0 ≡ true = sym c.has_d_term.ensures ∙ c.if-has_d_term.true in
@@ -28,7 +29,7 @@ twice-requires c =
     rw (to_z-of_z d-fits, is-z) (c.requires.0.small.d, omega (arith, z-size c.args.form c.args.k c.requires.0 c.args.w.0 c.requires.1 yes))
 
 pub returns-then-has_d_term : goal.returns-then-has_d_term
-unfolding d_term
+unfolding z d_term
 returns-then-has_d_term c =
     let d-fits : SFits w64 c.args.k.d = abs→fits c.args.k.d (omega (arith, c.requires.0.small.d)) in
     let yes : has_d_term c.args.form c.args.k c.args.w.0 ≡ true = sym c.has_d_term.ensures ∙ c.if-has_d_term.true in

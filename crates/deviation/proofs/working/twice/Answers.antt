@@ -14,13 +14,13 @@ use Rattle.deviation.proofs.working.twice.Goals as goal
 
 pub turn-requires-2 : goal.turn-requires-2
 turn-requires-2 c =
-    -- TODO helper first: abbrev first : tie.Start → ℤ | first s = floor (s.args.d *ℤ s.args.z) one +ℤ pos 0 
-    let is_first : to_z w64 (of_z w64 c.turn.result) ≡ first c = rw (back c.turn.result c.turn.type_inv, c.turn.ensures, to_z-of_z c.ranges.d, to_z-of_z c.ranges.z) in
-    rw (is_first, to_z-of_z c.ranges.z) (turn-room one largest_ratio (omega arith) c.args.z c.requires.1 (first c) (pos 0) 440_000_001 0 (omega (arith, turn-size one largest_ratio (omega arith) c.args.z c.requires.1 c.args.d (pos 0) largest_coefficient 0 c.requires.0 (omega arith))) (omega arith) (omega arith) (omega arith))
+    let first : ℤ = floor (c.args.d *ℤ c.args.z) one +ℤ pos 0 in
+    let is_first : to_z w64 (of_z w64 c.turn.result) ≡ first = rw (back c.turn.result c.turn.type_inv, c.turn.ensures, to_z-of_z c.ranges.d, to_z-of_z c.ranges.z) in
+    rw (is_first, to_z-of_z c.ranges.z) (turn-room one largest_ratio (omega arith) c.args.z c.requires.1 first (pos 0) 440_000_001 0 (omega (arith, turn-size one largest_ratio (omega arith) c.args.z c.requires.1 c.args.d (pos 0) largest_coefficient 0 c.requires.0 (omega arith))) (omega arith) (omega arith) (omega arith))
 
 pub returns : goal.returns
 unfolding rounded
 returns c =
-    -- TODO helper first: abbrev first : tie.Start → ℤ | first s = floor (s.args.d *ℤ s.args.z) one +ℤ pos 0 
-    let is_first : to_z w64 (of_z w64 c.turn.result) ≡ first c = rw (back c.turn.result c.turn.type_inv, c.turn.ensures, to_z-of_z c.ranges.d, to_z-of_z c.ranges.z) in
+    let first : ℤ = floor (c.args.d *ℤ c.args.z) one +ℤ pos 0 in
+    let is_first : to_z w64 (of_z w64 c.turn.result) ≡ first = rw (back c.turn.result c.turn.type_inv, c.turn.ensures, to_z-of_z c.ranges.d, to_z-of_z c.ranges.z) in
     rw (back c.turn-2.result c.turn-2.type_inv, c.turn-2.ensures, is_first, to_z-of_z c.ranges.z)

@@ -12,8 +12,8 @@ returns-then-less c = rw at_zero (lt_yes (rw (to_z-of_z c.ranges.value) at c.les
 pub returns-then-at_most : goal.returns-then-at_most
 returns-then-at_most c =    rw at_past_last (le_yes (rw (to_z-of_z c.ranges.value) at c.at_most.ensures) c.if-at_most.true)
 
-pub search-requires-clause-from_bound : goal.search-requires-clause-from_bound
-search-requires-clause-from_bound c = ?
-
-pub reference::search::search : goal.reference::search::search
-reference::search::search c = ?
+pub search-requires : goal.search-requires
+search-requires c = (
+  (omega arith, omega arith, omega arith, omega arith),
+  (rw at_zero (lt_no c.less.ensures c.if-less.false), rw at_past_last (le_no c.at_most.ensures c.if-at_most.false)),
+)
