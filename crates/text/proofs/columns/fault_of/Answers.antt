@@ -1,7 +1,8 @@
+use Rattle.std.specs.Prelude.{◌≢◌}
 use lib.Dec.{eqb}
 use lib.ListN.{length, take}
 use lib.Seq.{length-take-le}
-use Prim.Native.Nat.{ℕ, ◌+◌, ◌≤◌}
+use Prim.Native.Nat.{ℕ, ◌+◌, ◌≤◌, ◌<◌}
 use native.Mathlib.Omega.{arith}
 use mathlib.Core.Path.{◌≡◌, sym, ap, ◌∙◌}
 use mathlib.Core.Bool.{not}
@@ -19,25 +20,33 @@ counted : (line : List ℕ) (columns : List Holds) (count commas : ℕ) → coun
 counted line columns count commas h e = rw (length-take-le count columns h, sym e)
 
 pub returns-then-long : goal.returns-then-long
-returns-then-long c = sym (is-long (take c.args.count c.args.columns) c.args.line.now (lt-ltb 200 (length c.args.line.now) c.if-long.true))
+returns-then-long c =
+    let over : 200 < length c.args.line.now = omega arith in
+    sym (is-long (take c.args.count c.args.columns) c.args.line.now (lt-ltb 200 (length c.args.line.now) over))
 
 pub returns-then-wrong_count : goal.returns-then-wrong_count
 returns-then-wrong_count c =
+    let short : length c.args.line.now ≤ 200 = omega arith in
+    let other : c.commas_in.result + 1 ≢ c.args.count = omega arith in
     let test-is = counted c.args.line.now c.args.columns c.args.count c.commas_in.result c.requires.0 c.commas_in.ensures in
-    sym (is-miscounted (take c.args.count c.args.columns) c.args.line.now (le-ltb 200 (length c.args.line.now) c.if-long.false) (test-is ∙ ap not (ne_eqb _ _ c.if-wrong_count.true)))
+    sym (is-miscounted (take c.args.count c.args.columns) c.args.line.now (le-ltb 200 (length c.args.line.now) short) (test-is ∙ ap not (ne_eqb _ _ other)))
 
 pub returns-then-field-count : goal.returns-then-field-count
 returns-then-field-count c =
+    let short : length c.args.line.now ≤ 200 = omega arith in
+    let same : c.commas_in.result + 1 ≡ c.args.count = omega arith in
     let test-is = counted c.args.line.now c.args.columns c.args.count c.commas_in.result c.requires.0 c.commas_in.ensures in
     let long = length-take-le c.args.count c.args.columns c.requires.0 in
-    sym (is_found (take c.args.count c.args.columns) c.args.line.now (le-ltb 200 (length c.args.line.now) c.if-long.false) (test-is ∙ ap not (eq-eqb _ _ c.if-wrong_count.false))
+    sym (is_found (take c.args.count c.args.columns) c.args.line.now (le-ltb 200 (length c.args.line.now) short) (test-is ∙ ap not (eq-eqb _ _ same))
     ∙ rw (sym c.first_broken-field.ensures, long, le-ltb c.first_broken-field.result (1 + c.args.count) (omega (arith, c.if-field-count.true))))
 
 pub returns : goal.returns
 returns c =
+    let short : length c.args.line.now ≤ 200 = omega arith in
+    let same : c.commas_in.result + 1 ≡ c.args.count = omega arith in
     let test-is = counted c.args.line.now c.args.columns c.args.count c.commas_in.result c.requires.0 c.commas_in.ensures in
     let long = length-take-le c.args.count c.args.columns c.requires.0 in
-    sym (is_found (take c.args.count c.args.columns) c.args.line.now (le-ltb 200 (length c.args.line.now) c.if-long.false) (test-is ∙ ap not (eq-eqb _ _ c.if-wrong_count.false))
+    sym (is_found (take c.args.count c.args.columns) c.args.line.now (le-ltb 200 (length c.args.line.now) short) (test-is ∙ ap not (eq-eqb _ _ same))
     ∙ rw (sym c.first_broken-field.ensures, long, lt-ltb c.first_broken-field.result (1 + c.args.count) (omega (arith, c.if-field-count.false))))
 
 pub overflow_add-wrong_count : goal.overflow_add-wrong_count
