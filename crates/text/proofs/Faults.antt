@@ -1,12 +1,12 @@
 -- The fault of a line, found from left to right, is the one that its columns say.
 use mathlib.Core.Path.{◌≡◌, refl, sym, ap, ◌∙◌}
-use mathlib.Core.Bool.{Bool, true, false, true≢false, ◌&&◌, not}
+use mathlib.Core.Bool.{Bool, true, false, true≢false, not}
 use mathlib.Core.List.{List, [], ◌∷◌, map}
 use mathlib.Core.Option.{Option, none, some, some-injective, none-ne-some}
 use native.Mathlib.Omega.{arith}
 use Prim.Native.Nat.{ℕ, zero, suc, ◌+◌, ◌-◌, ◌≤◌, ◌<◌}
 use Prim.Native.Char.{code}
-use lib.Dec.{leb, ltb, eqb}
+use lib.Dec.{ltb, eqb}
 use lib.ListN.{length, take, drop, get_or, length-drop, drop_of_length-le}
 use lib.Seq.{drop-drop, drop-cons, get_or-take, length-take-le}
 use borrow.Author.Tests.{le-leb, lt-leb, lt-ltb, le-ltb, ltb-false, eq-eqb, ne_eqb, eqb-true}
@@ -17,7 +17,7 @@ use Rattle.text.specs.declared.columns.Holds.{Holds}
 use Rattle.text.specs.declared.columns.Fault.{Fault}
 use Rattle.text.specs.declared.columns.Fault.TheVariants.{TooLong, WrongCount, Broken}
 use Rattle.text.specs.Fields.{field, later, fields}
-use Rattle.text.specs.Columns.{Column, ◌holds◌, held, column_at, longest_line, rule, rule_of, first_broken, fault_by, fault_of, is_none, well_formed}
+use Rattle.text.specs.Columns.{Column, held, column_at, longest_line, rule, rule_of, first_broken, fault_by, fault_of, is_none, well_formed}
 use Rattle.text.specs.Scanned.{next_at, commas_in, first_lost, is_narrow}
 use Rattle.text.specs.Promised.{FirstToBreak, FirstNamed}
 use Rattle.text.proofs.Rows.{Split, only, comma, split, keeps, breaks}

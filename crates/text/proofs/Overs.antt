@@ -3,7 +3,7 @@ use mathlib.Core.Path.{◌≡◌, sym, ap, ◌∙◌}
 use mathlib.Core.List.{List, [], ◌∷◌, ◌++◌, append_assoc}
 use native.Mathlib.Nat.{zero-add}
 use native.Mathlib.Omega.{arith}
-use Prim.Native.Nat.{ℕ, suc, ◌+◌, ◌<◌}
+use Prim.Native.Nat.{ℕ, suc, ◌<◌}
 use lib.ListN.{length, take, drop, set, get_or, length-append}
 use lib.Seq.{take-append_seam, drop-append-add, drop-drop, take-suc, length-take-le, set_at, paste, take-length}
 use Rattle.text.specs.Writing.{over}

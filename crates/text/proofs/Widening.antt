@@ -42,11 +42,15 @@ pub data AllEased : List Column → List Column → Type 0 where
 
 as_many : (cs ds : List Column) → AllEased cs ds → length (map held cs) ≡ length (map held ds)
 as_many [] [] none_left = refl
+as_many [] (d ∷ ds) x = elim x [ ]
+as_many (c ∷ cs) [] x = elim x [ ]
 as_many (c ∷ cs) (d ∷ ds) (eased one others) = omega (arith, as_many cs ds others)
 
 -- ---- the fault of a line, unless a field breaks its rule
 fields_stay : (n : ℕ) (cs ds : List Column) (fs : List (List ℕ)) → AllEased cs ds → ((k : ℕ) → first_broken n (map held cs) fs ≡ some (Broken k) → ⊥) → first_broken n (map held ds) fs ≡ first_broken n (map held cs) fs
 fields_stay n [] [] fs none_left kept = refl
+fields_stay n [] (d ∷ ds) fs x kept = elim x [ ]
+fields_stay n (c ∷ cs) [] fs x kept = elim x [ ]
 fields_stay n (c ∷ cs) (d ∷ ds) [] (eased one others) kept = refl
 fields_stay n (c ∷ cs) (d ∷ ds) (f ∷ fs) (eased one others) kept = by (rule_of (held c) f) refl (fields_stay (n + 1) cs ds fs others) kept
   where
@@ -72,6 +76,8 @@ fault-stays cs ds all line = by (ltb longest_line (length line)) (eqb (length (f
 -- ---- what a row says
 fields_say : (cs ds : List Column) → AllEased cs ds → (fs : List (List ℕ)) → said_by cs fs ≡ said_by ds fs
 fields_say [] [] none_left fs = refl
+fields_say [] (d ∷ ds) x fs = elim x [ ]
+fields_say (c ∷ cs) [] x fs = elim x [ ]
 fields_say (c ∷ cs) (d ∷ ds) (eased one others) [] = refl
 fields_say (c ∷ cs) (d ∷ ds) (eased one others) (f ∷ fs) = ap₂ {C = List Value} ◌∷◌ (one.says f) (fields_say cs ds others fs)
 
