@@ -13,7 +13,7 @@ pub returns-then-at_most : goal.returns-then-at_most
 returns-then-at_most c =    rw at_past_last (le_yes (rw (to_z-of_z c.ranges.value) at c.at_most.ensures) c.if-at_most.true)
 
 pub search-requires : goal.search-requires
-search-requires c = (
-  (omega arith, omega arith, omega arith, omega arith),
-  (rw at_zero (lt_no c.less.ensures c.if-less.false), rw at_past_last (le_no c.at_most.ensures c.if-at_most.false)),
-)
+search-requires c = record {
+  from_lt_to = (omega arith, omega arith, omega arith, omega arith);
+  from_bound = (rw at_zero (lt_no c.less.ensures c.if-less.false), rw at_past_last (le_no c.at_most.ensures c.if-at_most.false));
+}
