@@ -36,5 +36,6 @@ returns-then-place-lt-ZERO c =
     rw value (ap pos (cut_rest c.fallen-f.result.units c.fallen-f.result.rest (some c.fallen-f.result.rest z) c.fallen-f.ensures.1 under))
 
 pub returns : goal.returns
-returns c = let s = c.args in
+returns c =
+    let s = c.args in
     rw (above s.place c.if-place-lt-ZERO.false, c.risen.ensures) (ap pos (cut_up c.risen.result))

@@ -17,5 +17,6 @@ returns-then-place-lt-ZERO c =
     rw (exact_below s.place u rest c.if-place-lt-ZERO.true c.fallen-f.ensures.0) (compared_down u rest s.w c.fallen-f.ensures.1 under)
 
 pub returns : goal.returns
-returns c = let s = c.args in
+returns c =
+    let s = c.args in
     rw (above s.place c.if-place-lt-ZERO.false, c.risen.ensures) (compared_up c.risen.result s.w)

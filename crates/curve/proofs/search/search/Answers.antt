@@ -25,5 +25,6 @@ found value low high b =
     largest-by-next exact first last one_up value (step_at low) (from_first low) (to_last low (omega (arith, b.within))) b.not-above (rw (next_place low) h)
 
 pub returns : goal.returns
-returns c = let z : c.loop-left.left ≡ 0 = omega arith in
+returns c =
+    let z : c.loop-left.left ≡ 0 = omega arith in
     found _ _ _ (rw z at c.loop-left.invariant)
