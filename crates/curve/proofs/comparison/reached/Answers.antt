@@ -1,7 +1,6 @@
 use Prim.Native.Nat.{◌+◌, ◌*◌, ◌≤◌, ◌^◌}
 use native.Mathlib.Omega.{arith}
 use Rattle.curve.proofs.Places.{above, not-over-one, exact_below, compared_down, compared_up}
-use borrow.Author.Rules.{rules}
 use Rattle.curve.proofs.comparison.reached.Goals as goal
 
 pub overflow_add-result : goal.overflow_add-result
@@ -18,11 +17,6 @@ returns-then-place-lt-ZERO c =
     rw (exact_below s.place u rest c.if-place-lt-ZERO.true c.fallen-f.ensures.0) (compared_down u rest s.w c.fallen-f.ensures.1 under)
 
 pub returns : goal.returns
-returns c =    let s = c.args in
+returns c =
+    let s = c.args in
     rw (above s.place c.if-place-lt-ZERO.false, c.risen.ensures) (compared_up c.risen.result s.w)
-
-pub curve::comparison::fallen : goal.curve::comparison::fallen
-curve::comparison::fallen c = ?
-
-pub curve::comparison::risen : goal.curve::comparison::risen
-curve::comparison::risen c = ?
