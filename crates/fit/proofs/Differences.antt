@@ -20,7 +20,7 @@ last_is d (d' ∷ ds) e = last_is d' ds e
 onward-length : (p : Point) (d : ℤ) (ps : List Point) (without : List ℤ) → length ps ≡ length without → length (onward p d ps without) ≡ length ps
 onward-length p d [] without h = refl
 onward-length p d (p' ∷ ps) [] h = absurd (omega arith)
-onward-length p d (p' ∷ ps) (e ∷ without) h = ap suc (onward-length p _ ps without (omega arith))
+onward-length p d (p' ∷ ps) (e ∷ without) h = ap suc (onward-length p ((e -ℤ d) ÷ (p'.x -ℤ p.x)) ps without (omega arith))
 
 as_many : (ps : List Point) → length ps ≡ length (differences ps)
 as_many [] = refl
