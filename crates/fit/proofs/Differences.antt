@@ -17,14 +17,14 @@ last_is d [] e = refl
 last_is d (d' ∷ ds) e = last_is d' ds e
 
 -- as many differences as cells
-onward-length : (p : Point) (d : ℤ) (ps : List Point) (without : List ℤ) → length ps ≡ length without → length (onward p d ps without) ≡ length ps
-onward-length p d [] without h = refl
-onward-length p d (p' ∷ ps) [] h = absurd (omega arith)
-onward-length p d (p' ∷ ps) (e ∷ without) h = ap suc (onward-length p ((e -ℤ d) ÷ (p'.x -ℤ p.x)) ps without (omega arith))
+onward-length : (p : Point) (ps : List Point) (without : List ℤ) (d : ℤ) → length ps ≡ length without → length (onward p d ps without) ≡ length ps
+onward-length p [] without d h = refl
+onward-length p (p' ∷ ps) [] d h = absurd (omega arith)
+onward-length p (p' ∷ ps) (e ∷ without) d h = ap suc (onward-length p ps without _ (omega arith))
 
 as_many : (ps : List Point) → length ps ≡ length (differences ps)
 as_many [] = refl
-as_many (p ∷ ps) = ap suc (sym (onward-length p (q p) ps (differences ps) (as_many ps)))
+as_many (p ∷ ps) = ap suc (sym (onward-length p ps (differences ps) (q p) (as_many ps)))
 
 -- one cell more adds one difference, and leaves those before it
 onward_more : (p : Point) (d : ℤ) (ps : List Point) (without : List ℤ) (p' : Point) (e : ℤ) → length ps ≡ length without → onward p d (ps ++ p' ∷ []) (without ++ e ∷ []) ≡ onward p d ps without ++ ((e -ℤ last d (onward p d ps without)) ÷ (p'.x -ℤ p.x)) ∷ []

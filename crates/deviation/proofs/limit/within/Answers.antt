@@ -6,7 +6,6 @@ use Rattle.whole.proofs.Machine.{back}
 use Rattle.quantity.specs.Quantities.{one, largest_ratio}
 use Rattle.deviation.specs.Limits.{x, δ, keeps}
 use Rattle.deviation.proofs.Limits.{x_size, δ-size, far}
-use borrow.Author.Rules.{rules}
 use Rattle.deviation.proofs.limit.within.Goals as goal
 
 -- `deviation::limit::within` meets its contract.

@@ -1,13 +1,11 @@
-use borrow.Author.Rules.{rules}
 use mathlib.Core.Path.{◌≡◌, sym, ◌∙◌}
 use mathlib.Core.Bool.{true}
 use Prim.Native.Nat.{◌≤◌}
 use native.Mathlib.Omega.{arith}
-use lib.IntN.{pos}
 use mir.Syntax.{w64}
 use mir.Val.{SFits, to_z, of_z}
 use mir.Facts.{to_z-of_z}
-use Rattle.whole.proofs.Size.{abs→fits, difference-fits}
+use Rattle.whole.proofs.Size.{abs→fits}
 use Rattle.whole.proofs.Machine.{back}
 use Rattle.quantity.specs.Quantities.{largest_ratio}
 use Rattle.deviation.specs.Working.{has_d_term, z, d_term}

@@ -1,4 +1,3 @@
-use borrow.Author.Rules.{rules}
 use mathlib.Core.Path.{◌≡◌}
 use native.Mathlib.Omega.{arith}
 use Rattle.whole.proofs.Size.{sum_fits}
@@ -10,7 +9,7 @@ use Rattle.deviation.proofs.Sized.{x_size, plain_size, silver-size}
 use Rattle.deviation.proofs.working.deviation.Goals as goal
 
 pub plain_deviation-requires : goal.plain_deviation-requires
-plain_deviation-requires c =    (c.requires.0.small, rw (back c.offset.result c.offset.type_inv, c.offset.ensures) (limits.x_size c.args.w.0 c.requires.1))
+plain_deviation-requires c = (c.requires.0.small, rw (back c.offset.result c.offset.type_inv, c.offset.ensures) (limits.x_size c.args.w.0 c.requires.1))
 
 pub sum-requires : goal.sum-requires
 sum-requires c =

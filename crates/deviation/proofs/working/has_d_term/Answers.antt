@@ -1,4 +1,3 @@
-use borrow.Author.Rules.{rules}
 use Rattle.deviation.specs.Working.{has_d_term}
 use Rattle.deviation.proofs.working.has_d_term.Goals as goal
 

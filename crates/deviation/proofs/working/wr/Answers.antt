@@ -1,4 +1,3 @@
-use borrow.Author.Rules.{rules}
 use Prim.Native.Nat.{◌*◌}
 use native.Mathlib.Omega.{arith}
 use lib.IntN.{pos}
@@ -10,9 +9,9 @@ use Rattle.deviation.proofs.Sized.{deviation-size}
 use Rattle.deviation.proofs.working.wr.Goals as goal
 
 pub difference-requires : goal.difference-requires
-difference-requires c =    rw (back c.signed.result c.signed.type_inv, c.signed.ensures, back c.deviation.result c.deviation.type_inv, c.deviation.ensures)
+difference-requires c = rw (back c.signed.result c.signed.type_inv, c.signed.ensures, back c.deviation.result c.deviation.type_inv, c.deviation.ensures)
     (difference-fits (pos (fine * c.args.w.0)) (deviation c.args.form c.args.k c.args.w.0) (omega (arith, c.requires.1, deviation-size c.args.form c.args.k c.requires.0 c.args.w.0 c.requires.1)))
 
 pub returns : goal.returns
 unfolding Wr
-returns c =    rw (back c.difference.result c.difference.type_inv, c.difference.ensures, back c.signed.result c.signed.type_inv, c.signed.ensures, back c.deviation.result c.deviation.type_inv, c.deviation.ensures)
+returns c = rw (back c.difference.result c.difference.type_inv, c.difference.ensures, back c.signed.result c.signed.type_inv, c.signed.ensures, back c.deviation.result c.deviation.type_inv, c.deviation.ensures)
