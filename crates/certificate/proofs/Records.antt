@@ -5,7 +5,7 @@ use mathlib.Core.List.{List, [], ◌∷◌, map}
 use Prim.Native.Nat.{ℕ, ◌+◌, ◌*◌, ◌≤◌}
 use borrow.Author.Tests.{ltb-false, leb-true, not-false, not-true, eqb-false}
 use lib.Dec.{leb, eqb}
-use lib.IntN.{ℤ, pos, ◌+ℤ◌}
+use lib.IntN.{pos, ◌+ℤ◌}
 use lib.Signed.{◌≤ℤ◌}
 use Rattle.whole.proofs.Any.{Member, here, there, of_none}
 use Rattle.whole.proofs.Choice.{and_true}

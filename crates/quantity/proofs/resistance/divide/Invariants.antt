@@ -1,8 +1,4 @@
-use mathlib.Core.Path.{◌≡◌, subst}
-use Prim.Native.Nat.{ℕ, suc, ◌*◌, ◌-◌, ◌/◌, ◌%◌, ◌<◌, ◌≤◌, ◌^◌}
-use native.Mathlib.Nat.{mod-eq_of_lt}
-use native.Mathlib.Omega.{arith}
-use Rattle.quantity.proofs.Division.{Dividing, small, goes, stays, Apart, apart}
+use Rattle.quantity.proofs.Division.{Dividing}
 use Rattle.quantity.proofs.resistance.divide.Given as goal
 
 -- `quantity::resistance::divide` meets its contract.

@@ -14,8 +14,7 @@ use Rattle.quantity.specs.Outcomes.{answered, refused}
 use Rattle.law.specs.declared.laws.Law.TheVariants.{Scale}
 use Rattle.law.specs.Subranges.{carried}
 use Rattle.law.specs.Answers.{no_step}
-use Rattle.law.proofs.Answers.{reads-below, reads_past, reads-step}
-use Rattle.reference.specs.Inverse.{Inverted}
+use Rattle.law.proofs.Answers.{reads_past, reads-step}
 use Rattle.reference.specs.Reference.{working, last, past_last}
 use Rattle.deviation.specs.Working.{Wr}
 use Rattle.reading.proofs.Ends.{tops, by-subrange, not_falling}

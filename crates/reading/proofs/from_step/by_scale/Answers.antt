@@ -1,18 +1,16 @@
 use borrow.Author.Rules.{rules}
 use mathlib.Core.Path.{◌≡◌}
-use lib.IntN.{ℤ, pos}
 use lib.Signed.{lt_z, ◌≤ℤ◌}
 use mir.Syntax.{w64}
 use mir.Val.{SFits}
 use mir.Facts.{to_z-of_z}
-use Rattle.whole.proofs.Parts.{ints}
-use Rattle.whole.proofs.Machine.{lt_yes, lt_no}
+use Rattle.whole.proofs.Machine.{lt_no}
 use Rattle.law.specs.declared.laws.Law.TheVariants.{Scale}
 use Rattle.law.specs.Subranges.{carried}
-use Rattle.law.proofs.Answers.{step-below, step-above, step-within}
+use Rattle.law.proofs.Answers.{step-within}
 use Rattle.reading.specs.Laws.{range_of}
 use Rattle.reading.specs.Forward.{RatioAt}
-use Rattle.reading.proofs.Ends.{bottom_is, tops, range-bottom, range-top}
+use Rattle.reading.proofs.Ends.{range-bottom, range-top}
 use Rattle.reading.proofs.from_step.by_scale.Goals as goal
 
 pub returns : goal.returns

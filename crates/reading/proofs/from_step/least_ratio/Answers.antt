@@ -1,17 +1,10 @@
 use mathlib.Core.Path.{◌≡◌}
-use Prim.Native.Nat.{ℕ, ◌+◌, ◌-◌, ◌/◌, ◌<◌, ◌≤◌}
 use native.Mathlib.Omega.{arith}
-use lib.IntN.{ℤ}
-use lib.Signed.{le_z, ◌≤ℤ◌, ◌<ℤ◌}
 use mir.Syntax.{w64}
 use mir.Val.{to_z, of_z}
 use Rattle.whole.proofs.Parts.{ints}
-use Rattle.whole.proofs.Machine.{back, le_yes, le_no}
-use Rattle.quantity.specs.Quantities.{largest_ratio}
+use Rattle.whole.proofs.Machine.{back}
 use Rattle.reference.specs.Reference.{working}
-use Rattle.law.specs.declared.subrange.Form.{Form}
-use Rattle.deviation.specs.declared.places.Places.{Places}
-use Rattle.deviation.specs.Working.{Wr}
 use Rattle.deviation.proofs.Rising.{not_falling}
 use Rattle.reading.proofs.Ends.{under_all, over-all}
 use Rattle.reading.proofs.from_step.least_ratio.Goals as goal

@@ -1,8 +1,6 @@
-use borrow.Author.Rules.{rules}
 use native.Mathlib.Omega.{arith}
 use mir.Facts.{to_z-of_z}
-use Rattle.whole.proofs.Parts.{ints}
-use Rattle.whole.proofs.Machine.{back, le_yes, le_no, lt_yes, lt_no}
+use Rattle.whole.proofs.Machine.{le_yes, le_no, lt_yes, lt_no}
 use Rattle.reference.proofs.Values.{at_zero, at_past_last}
 use Rattle.reference.proofs.inverse.invert.Goals as goal
 
@@ -10,7 +8,7 @@ pub returns-then-less : goal.returns-then-less
 returns-then-less c = rw at_zero (lt_yes (rw (to_z-of_z c.ranges.value) at c.less.ensures) c.if-less.true)
 
 pub returns-then-at_most : goal.returns-then-at_most
-returns-then-at_most c =    rw at_past_last (le_yes (rw (to_z-of_z c.ranges.value) at c.at_most.ensures) c.if-at_most.true)
+returns-then-at_most c = rw at_past_last (le_yes (rw (to_z-of_z c.ranges.value) at c.at_most.ensures) c.if-at_most.true)
 
 pub search-requires : goal.search-requires
 search-requires c = record {

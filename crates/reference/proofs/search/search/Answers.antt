@@ -2,15 +2,11 @@ use mathlib.Core.Path.{◌≡◌}
 use Prim.Native.Nat.{ℕ}
 use native.Mathlib.Omega.{arith}
 use lib.IntN.{ℤ, pos, ◌+ℤ◌}
-use lib.Signed.{le_z}
-use mir.Syntax.{w64}
-use mir.Val.{to_z, of_z}
 use mir.Facts.{to_z-of_z}
 use Rattle.whole.specs.Largest.{Largest}
 use Rattle.whole.proofs.Parts.{ints, add_parts}
 use Rattle.whole.proofs.Largest.{largest-by-next}
-use Rattle.whole.proofs.Halving.{Between, middle, upper, lower, neighbours}
-use Rattle.whole.proofs.Machine.{back, le_yes, le_no}
+use Rattle.whole.proofs.Halving.{Between, neighbours}
 use Rattle.reference.specs.Reference.{working, last}
 use Rattle.reference.proofs.Rising.{one_up}
 use Rattle.reference.proofs.search.search.Goals as goal
@@ -28,5 +24,5 @@ found value low high b =
     largest-by-next working (pos 0) last one_up value (pos low) (omega ints) (omega (ints, b.within)) b.not-above (rw f at b.above)
 
 pub returns : goal.returns
-returns c =    let z : c.loop-left.left ≡ 0 = omega arith in
+returns c = let z : c.loop-left.left ≡ 0 = omega arith in
     found _ _ _ (rw (to_z-of_z c.ranges.value, z) at c.loop-left.invariant)

@@ -56,7 +56,7 @@ turn-sum-requires c =
     rw (d, c.loop-i.invariant.1, d, coefficient) (turns _ c.loop-i.i bound (omega arith))
 
 pub loop-i-preserved : goal.loop-i-preserved
-loop-i-preserved c =    (omega arith, rw (back _ c.turn-sum.type_inv, c.turn-sum.ensures, c.loop-i.invariant.1, coefficient) (lower _ c.loop-i.i (omega arith) (omega arith)))
+loop-i-preserved c = (omega arith, rw (back _ c.turn-sum.type_inv, c.turn-sum.ensures, c.loop-i.invariant.1, coefficient) (lower _ c.loop-i.i (omega arith) (omega arith)))
 
 pub returns : goal.returns
 unfolding working from

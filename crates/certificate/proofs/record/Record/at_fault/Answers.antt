@@ -1,31 +1,25 @@
-use borrow.Author.Rules.{rules}
 use mathlib.Core.Path.{◌≡◌, sym, ◌∙◌}
-use mathlib.Core.Bool.{true, false}
+use mathlib.Core.Bool.{false}
 use Rattle.law.specs.Subranges.{cells}
 use Rattle.fit.specs.Fit.{beyond}
 use Rattle.certificate.specs.Record.{ratio_above, cell_missing, purity_cell_missing, fitted}
 use Rattle.certificate.specs.AtFault.{at_fault}
+use Rattle.std.proofs.Common.{arith}
+use Rattle.std.proofs.lemmas.Grind.{common_steps}
 use Rattle.certificate.proofs.Firsts.{if_deviating}
 use Rattle.certificate.proofs.record.Record.at_fault.Goals as goal
 
 pub returns-then-above : goal.returns-then-above
 unfolding at_fault
-returns-then-above c =    rw (sym c.ratio_above-above.ensures ∙ c.if-above.true) c.first_above.ensures
+returns-then-above c = grind (arith, common_steps)
 
 pub returns-then-missing : goal.returns-then-missing
 unfolding at_fault
-returns-then-missing c =
-    let passed-2 : ratio_above c.args.self ≡ false = sym c.ratio_above-above.ensures ∙ c.if-above.false in
-    let args = c.args in
-    let yes : cell_missing args.self (cells args.subrange) ≡ true = rw c.cells-needed.ensures at (sym c.cell_missing-missing.ensures ∙ c.if-missing.true) in
-    rw (passed-2, yes, ← c.cells-needed.ensures) c.first_missing.ensures
+returns-then-missing c = grind (arith, common_steps)
 
 pub returns-then-purity_cell_missing : goal.returns-then-purity_cell_missing
 unfolding at_fault
-returns-then-purity_cell_missing c =
-    let passed-2 : ratio_above c.args.self ≡ false = sym c.ratio_above-above.ensures ∙ c.if-above.false in
-    let passed-4 : cell_missing c.args.self (cells c.args.subrange) ≡ false = rw c.cells-needed.ensures at (sym c.cell_missing-missing.ensures ∙ c.if-missing.false) in
-    rw (passed-2, passed-4, sym c.purity_cell_missing.ensures ∙ c.if-purity_cell_missing.true)
+returns-then-purity_cell_missing c = grind (arith, common_steps)
 
 pub returns-then-impure : goal.returns-then-impure
 unfolding at_fault

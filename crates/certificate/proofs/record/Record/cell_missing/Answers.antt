@@ -1,4 +1,3 @@
-use borrow.Author.Rules.{rules}
 use mathlib.Core.List.{[], ◌∷◌}
 use Rattle.whole.proofs.Any.{from_left}
 use Rattle.certificate.specs.Record.{is_missing, cell_missing}

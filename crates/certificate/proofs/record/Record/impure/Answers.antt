@@ -1,7 +1,6 @@
-use borrow.Author.Rules.{rules}
 use Rattle.certificate.specs.Record.{impure}
 use Rattle.certificate.proofs.record.Record.impure.Goals as goal
 
 pub returns : goal.returns
 unfolding impure
-returns c =    rw (c.is_pure.ensures, c.to_silver-to_silver.ensures, c.form.ensures)
+returns c = rw (c.is_pure.ensures, c.to_silver-to_silver.ensures, c.form.ensures)

@@ -1,4 +1,3 @@
-use borrow.Author.Rules.{rules}
 use Rattle.certificate.specs.Record.{purity_cell_missing}
 use Rattle.certificate.proofs.record.Record.purity_cell_missing.Goals as goal
 

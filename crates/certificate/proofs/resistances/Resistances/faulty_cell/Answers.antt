@@ -1,4 +1,3 @@
-use borrow.Author.Rules.{rules}
 use mathlib.Core.Path.{◌≡◌, sym, ◌∙◌}
 use mathlib.Core.Bool.{false}
 use Rattle.certificate.specs.Resistances.{outside}
@@ -8,11 +7,11 @@ use Rattle.certificate.proofs.resistances.Resistances.faulty_cell.Goals as goal
 
 pub returns-then-outside : goal.returns-then-outside
 unfolding at_fault_by cell_at_fault_by
-returns-then-outside c =    rw (← c.in-Known.ensures, sym c.outside.ensures ∙ c.if-outside.true) c.first_outside.ensures
+returns-then-outside c = rw (← c.in-Known.ensures, sym c.outside.ensures ∙ c.if-outside.true) c.first_outside.ensures
 
 pub returns-in-Unknown : goal.returns-in-Unknown
 unfolding cell_at_fault_by
-returns-in-Unknown c =    rw (← c.in-Unknown.ensures)
+returns-in-Unknown c = rw (← c.in-Unknown.ensures)
 
 pub returns-else-outside : goal.returns-else-outside
 unfolding cell_at_fault_by
