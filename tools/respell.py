@@ -117,6 +117,44 @@ def turn(text, quiet, turned):
     return "".join(out)
 
 
+# The library has a choice of its own, of values alone and with another precedence. The project's, which statements are written by too, is a word of its own.
+CHOICE = ("if◌then◌else◌", "if◌then◌otherwise◌")
+CLAUSE = re.compile(r"\b(?:requires|ensures)\b\s*\w*\s*\{")
+
+
+def chosen(text):
+    """Antt with the project's choice."""
+    return WORD.sub(lambda m: CHOICE[1] if m[0] == CHOICE[0] else "otherwise" if m[0] == "else" else m[0], text)
+
+
+def chosen_antt(text):
+    out, at = [], 0
+    for q in QUIET.finditer(text):
+        out += [chosen(text[at : q.start()]), q[0]]
+        at = q.end()
+    return "".join([*out, chosen(text[at:])])
+
+
+def chosen_rust(text):
+    """The same of the clauses and ghost lines of Rust."""
+    text = re.sub(r"^ghost use .*$", lambda m: chosen(m[0]), text, flags=re.M)
+    out, at = [], 0
+    while found := CLAUSE.search(text, at):
+        end, depth = found.end(), 1
+        while depth:
+            depth += {"{": 1, "}": -1}.get(text[end], 0)
+            end += 1
+        out += [text[at : found.end()], chosen(text[found.end() : end])]
+        at = end
+    return "".join([*out, text[at:]])
+
+
+def chosen_edit(text):
+    specs = re.search(r"^file: .*\.antt$", text, re.M)
+    turned = chosen if specs else chosen_rust
+    return "\n".join(turned(line) if line.startswith(("old:", "new:")) else line for line in text.split("\n"))
+
+
 NOTHING = re.compile(r"(?!x)x")
 
 
@@ -138,9 +176,9 @@ def main(words):
     check = words == ["--check"]
     turned = table()
     changed = 0
-    files = [(p, lambda t: turn(t, QUIET, turned)) for p in antt_files()]
-    files += [(p, lambda t: turn(t, RUST_QUIET, turned)) for p in sorted((ROOT / "crates").rglob("*.rt"))]
-    files += [(p, lambda t: turned_edit(t, turned)) for p in sorted((ROOT / "crates").rglob("*.edit"))]
+    files = [(p, lambda t: chosen_antt(turn(t, QUIET, turned))) for p in antt_files()]
+    files += [(p, lambda t: chosen_rust(turn(t, RUST_QUIET, turned))) for p in sorted((ROOT / "crates").rglob("*.rt"))]
+    files += [(p, lambda t: chosen_edit(turned_edit(t, turned))) for p in sorted((ROOT / "crates").rglob("*.edit"))]
     files += [(p, lambda t: turned_page(t, turned)) for p in [ROOT / "README.md", *sorted((ROOT / "docs").glob("*.md"))] if p.name != "PORT.md"]
     for file, of in files:
         text = file.read_text(encoding="utf-8")

@@ -72,5 +72,6 @@ fault-text title titles (Broken n) why =
 pub placed-fault : (kind : Kind) (title : String) (titles : List String) → kind.own ≡ title ∷ titles → (line out out' : List ℕ) (x : Placing) (fault : Fault) → fault_of kind.columns line ≡ some fault
     → PlacedAs (number_of (refusal_of fault)) (fault_text fault (commaed (blanks kind.own))) out out' x → AnsweredAs kind line out out' x
 placed-fault kind title titles own line out out' x fault found p =
-    let text : fault_text fault (commaed (blanks kind.own)) ≡ fault_line kind fault = rw own (fault-text title titles fault (refusal_of fault)) in
+    let text : fault_text fault (commaed (blanks kind.own)) ≡ fault_line kind fault =
+    subst (λ (own : List String). fault_text fault (commaed (blanks own)) ≡ nameless_line (fault_columns own fault) (refusal_of fault)) (sym own) (fault-text title titles fault (refusal_of fault)) in
     (number_of (refusal_of fault), fault_line kind fault, rw found (refl, refl), subst (λ (t : List ℕ). PlacedAs (number_of (refusal_of fault)) t out out' x) text p)

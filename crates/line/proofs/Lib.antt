@@ -1,5 +1,5 @@
 -- The proofs about a line's answer.
-pub mod Placing
+pub mod Buffers
 pub mod Answers
 pub mod Unique
 pub mod Short

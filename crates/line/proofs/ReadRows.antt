@@ -19,7 +19,7 @@ use Rattle.reading.specs.Reading.{read_certificate}
 use Rattle.reading.proofs.Ends.{tops}
 use Rattle.reading.proofs.Demand.{largest_step}
 use Rattle.reading.proofs.Unique.{read_unique}
-use Rattle.text.specs.Decimal.{decimal, signed_decimal}
+use Rattle.text.specs.Decimal.{signed_decimal}
 use Rattle.text.specs.Columns.{Value, well_formed, field_at, count_at}
 use Rattle.text.proofs.Longest.{fields-short}
 use Rattle.row.specs.Places.{given_at}

@@ -1,6 +1,6 @@
 -- Wider limits of a resistance: of a list's lines only those move that were refused by 1 or by 14.
 use mathlib.Core.Path.{◌≡◌, refl, sym, ◌∙◌, subst}
-use mathlib.Core.Bool.{true, false, true≢false}
+use mathlib.Core.Bool.{false, true≢false}
 use mathlib.Core.List.{List}
 use mathlib.Core.Option.{Option, none, some, none-ne-some}
 use Prim.Native.Nat.{ℕ, ◌≤◌}
@@ -22,7 +22,7 @@ use Rattle.row.specs.Limits.{Limits, limits, limits_before}
 use Rattle.row.specs.Places.{digits, given_at}
 use Rattle.row.specs.Readings.{columns_up_to}
 use Rattle.line.specs.Kinds.{Kind, RowAnswered, AnsweredBy, Answered, answer_line, own_columns, fault_line, refusal_of}
-use Rattle.line.specs.Readings.{readings_up_to, readings}
+use Rattle.line.specs.Readings.{readings_up_to}
 use Rattle.line.specs.Promised.{OneAnswer, may_move, OnlyRefusedMove, ListWidens, ReadingListWidens, Raised, CanBeTyped}
 use Rattle.line.proofs.Unique.{one_answer}
 use Rattle.line.proofs.ReadRows.{reading_row}
