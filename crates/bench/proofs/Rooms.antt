@@ -10,7 +10,7 @@ use lib.Dec.{eqb}
 use lib.IntN.{ℤ, nat_abs, ◌-ℤ◌}
 use lib.Signed.{◌≤ℤ◌}
 use lib.ListN.{length, length-append}
-use Rattle.whole.specs.Choice.{if◌then◌else◌}
+use Rattle.whole.specs.Choice.{if◌then◌otherwise◌}
 use Rattle.whole.specs.Text.{ascii}
 use Rattle.whole.specs.Largest.{Largest}
 use Rattle.whole.proofs.Parts.{ints, sub_parts, abs_parts, one_part}
@@ -116,7 +116,7 @@ steps_kept = lines_kept steps ratio_bytes step_row small-step (names_short _ nam
 class_top : (letter : ℕ) (class : Class) → class_named letter ≡ some class → class.top ≤ℤ last
 class_top letter class = by (eqb letter (code "A")) (eqb letter (code "B"))
   where
-    by : (a b : Bool) → (if a then some class_a else if b then some class_b else none) ≡ some class → class.top ≤ℤ last
+    by : (a b : Bool) → (if a then some class_a otherwise if b then some class_b otherwise none) ≡ some class → class.top ≤ℤ last
     by true b e = rw (sym (some-injective class_a class e)) (omega ints)
     by false true e = rw (sym (some-injective class_b class e)) (omega ints)
     by false false e = absurd (none-ne-some class e)

@@ -8,7 +8,7 @@ use native.Mathlib.Omega.{arith}
 use borrow.Author.Tests.{eqb-true}
 use lib.Dec.{eqb}
 use Rattle.whole.specs.Any.{any}
-use Rattle.whole.specs.Choice.{if◌then◌else◌}
+use Rattle.whole.specs.Choice.{if◌then◌otherwise◌}
 use Rattle.purity.specs.Purity.{by_gallium_or_mercury, by_silver}
 use Rattle.quantity.specs.Outcomes.{Outcome, Test, ◌gives◌, number_given, Rule, Follows, if_named}
 use Rattle.quantity.proofs.Outcomes.{code-is-given}
@@ -66,7 +66,7 @@ of_given : (P : ℕ → Type 0) (tests : List Test) → OfTests P tests → P (n
 of_given P [] each = each
 of_given P ((holds gives n) ∷ tests) each = by holds refl (of_given P tests)
   where
-    by : (t : Bool) → holds ≡ t → (OfTests P tests → P (number_given tests)) → P (if t then n else number_given tests)
+    by : (t : Bool) → holds ≡ t → (OfTests P tests → P (number_given tests)) → P (if t then n otherwise number_given tests)
     by true is later = each.0 is
     by false is later = later (each.1 is)
 

@@ -6,7 +6,7 @@ use mathlib.Core.Option.{Option, none, some}
 use Prim.Native.Nat.{ℕ}
 use native.Mathlib.Omega.{arith}
 use Rattle.whole.specs.Any.{any}
-use Rattle.whole.specs.Choice.{if◌then◌else◌}
+use Rattle.whole.specs.Choice.{if◌then◌otherwise◌}
 use Rattle.law.specs.declared.cell.Cell.{Cell}
 use Rattle.law.specs.declared.subrange.Subrange.{Subrange}
 use Rattle.law.specs.Cells.{all_cells}
@@ -28,7 +28,7 @@ module _ (holds : Cell → Bool) where
   tried-first [] = refl
   tried-first (p ∷ ps) = by (holds p) (found-stays p ps) (tried-first ps)
     where
-      by : (t : Bool) → tried (some p) ps ≡ some p → tried none ps ≡ first holds ps → tried (if t then some p else none) ps ≡ (if t then some p else first holds ps)
+      by : (t : Bool) → tried (some p) ps ≡ some p → tried none ps ≡ first holds ps → tried (if t then some p otherwise none) ps ≡ (if t then some p otherwise first holds ps)
       by true this later = this
       by false this later = later
 
@@ -37,7 +37,7 @@ module _ (holds : Cell → Bool) where
   first_found [] e = absurd (false≢true e)
   first_found (p ∷ ps) e = by (holds p) e (first_found ps)
     where
-      by : (t : Bool) → (t || any holds ps) ≡ true → (any holds ps ≡ true → (q : Cell) × (first holds ps ≡ some q)) → (q : Cell) × ((if t then some p else first holds ps) ≡ some q)
+      by : (t : Bool) → (t || any holds ps) ≡ true → (any holds ps ≡ true → (q : Cell) × (first holds ps ≡ some q)) → (q : Cell) × ((if t then some p otherwise first holds ps) ≡ some q)
       by true e later = (p, refl)
       by false e later = later e
 
@@ -45,7 +45,7 @@ module _ (holds : Cell → Bool) where
   first-none [] e = refl
   first-none (p ∷ ps) e = by (holds p) e (first-none ps)
     where
-      by : (t : Bool) → (t || any holds ps) ≡ false → (any holds ps ≡ false → first holds ps ≡ none) → (if t then some p else first holds ps) ≡ none
+      by : (t : Bool) → (t || any holds ps) ≡ false → (any holds ps ≡ false → first holds ps ≡ none) → (if t then some p otherwise first holds ps) ≡ none
       by true e later = absurd (true≢false e)
       by false e later = later e
 
@@ -57,11 +57,11 @@ module _ (holds : Cell → Bool) where
       by true h = let f = first_found ps h in let o = f.1 in absurd (let z : ◌≡◌ {A = ℕ} 0 1 = cc in omega arith)
 
 -- the first that deviates, none where 7 is given for a coefficient or is not given
-pub if_deviating : (s : Subrange) (ratios : Record) (far : Bool) → first (cell_deviates ratios) all_cells ≡ cell_for s ratios (if deviates ratios || far then 7 else 0)
+pub if_deviating : (s : Subrange) (ratios : Record) (far : Bool) → first (cell_deviates ratios) all_cells ≡ cell_for s ratios (if deviates ratios || far then 7 otherwise 0)
 unfolding deviates
 if_deviating s ratios far = by (any (cell_deviates ratios) all_cells) far refl
   where
-    by : (t far : Bool) → any (cell_deviates ratios) all_cells ≡ t → first (cell_deviates ratios) all_cells ≡ cell_for s ratios (if t || far then 7 else 0)
+    by : (t far : Bool) → any (cell_deviates ratios) all_cells ≡ t → first (cell_deviates ratios) all_cells ≡ cell_for s ratios (if t || far then 7 otherwise 0)
     by true _ e = refl
     by false true e = refl
     by false false e = first-none (cell_deviates ratios) all_cells e

@@ -10,7 +10,7 @@ use lib.Dec.{leb, eqb}
 use lib.IntN.{ℤ, nat_abs}
 use lib.ListN.{length}
 use Rattle.whole.specs.Any.{any}
-use Rattle.whole.specs.Choice.{if◌then◌else◌}
+use Rattle.whole.specs.Choice.{if◌then◌otherwise◌}
 use Rattle.whole.proofs.Any.{Member, of_any, or_false}
 use Rattle.quantity.specs.Quantities.{largest_ratio}
 use Rattle.quantity.specs.Outcomes.{Outcome, answered, ◌gives◌, number_given, Follows, if_named}
@@ -63,7 +63,7 @@ abbrev is_aluminium : Cell → Bool
 is_aluminium p = eqb (Wr p) (Wr Al)
 
 aluminium_is : (p : Cell) → is_aluminium p ≡ true → p ≡ Al
-aluminium_is p e = rw e at (cell_fact (λ (p : Cell). if is_aluminium p then p else Al) (λ (p : Cell). Al) refl p)
+aluminium_is p e = rw e at (cell_fact (λ (p : Cell). if is_aluminium p then p otherwise Al) (λ (p : Cell). Al) refl p)
 
 or_true : (a b : Bool) → a ≡ true → (not a || b) ≡ true → b ≡ true
 or_true true b p e = e
@@ -76,10 +76,10 @@ needs_aluminium s e =
 
 -- ---- a certificate whose tests were passed
 module _ (ratios : Record) (above : ratio_above ratios ≡ false) (kept : deviates ratios ≡ false) where
-  aluminium-kept : (s : Subrange) → cell_missing ratios (cells s) ≡ false → (if to_silver (carried s).form then within (Wr Al) (aluminium_ratio s ratios) else eqb (aluminium_ratio s ratios) 0) ≡ true
+  aluminium-kept : (s : Subrange) → cell_missing ratios (cells s) ≡ false → (if to_silver (carried s).form then within (Wr Al) (aluminium_ratio s ratios) otherwise eqb (aluminium_ratio s ratios) 0) ≡ true
   aluminium-kept s m = by (to_silver (carried s).form) refl
     where
-      by : (t : Bool) → to_silver (carried s).form ≡ t → (if t then within (Wr Al) (if t then ratio ratios Al else 0) else eqb (if t then ratio ratios Al else 0) 0) ≡ true
+      by : (t : Bool) → to_silver (carried s).form ≡ t → (if t then within (Wr Al) (if t then ratio ratios Al otherwise 0) otherwise eqb (if t then ratio ratios Al otherwise 0) 0) ≡ true
       by true e = keeps-limit ratios above kept Al (all_measured ratios (cells s) m Al (needs_aluminium s e))
       by false e = refl
 
@@ -132,7 +132,7 @@ made-sized s ratios e =
     let p = tests_passed s ratios e in
     record { small = (sound_limited s (made s ratios).places (passed_sound s ratios p)).small; aluminium = by p.not-above (to_silver (carried s).form) }
   where
-    by : ratio_above ratios ≡ false → (silver : Bool) → (if silver then ratio ratios Al else 0) ≤ largest_ratio
+    by : ratio_above ratios ≡ false → (silver : Bool) → (if silver then ratio ratios Al otherwise 0) ≤ largest_ratio
     by above true = not-above ratios above Al
     by above false = omega arith
 

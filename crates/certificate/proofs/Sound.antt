@@ -6,7 +6,7 @@ use native.Mathlib.Omega.{arith}
 use borrow.Author.Tests.{leb-true, eqb-true}
 use lib.Dec.{leb, ltb, eqb}
 use lib.IntN.{ℤ, nat_abs}
-use Rattle.whole.specs.Choice.{if◌then◌else◌}
+use Rattle.whole.specs.Choice.{if◌then◌otherwise◌}
 use Rattle.whole.proofs.Choice.{and_true}
 use Rattle.law.specs.declared.subrange.Subrange.{Subrange}
 use Rattle.law.specs.declared.laws.Law.TheVariants.{Scale}
@@ -18,7 +18,7 @@ use Rattle.certificate.specs.Certificate.{place_kept, aluminium_kept, sound}
 kept : (used place : ℕ) (v : ℤ) → place_kept used place v ≡ true → nat_abs v ≤ largest_coefficient
 kept used place v = by (ltb place used)
   where
-    by : (t : Bool) → (if t then leb (nat_abs v) largest_coefficient else eqb (nat_abs v) 0) ≡ true → nat_abs v ≤ largest_coefficient
+    by : (t : Bool) → (if t then leb (nat_abs v) largest_coefficient otherwise eqb (nat_abs v) 0) ≡ true → nat_abs v ≤ largest_coefficient
     by true e = leb-true (nat_abs v) largest_coefficient e
     by false e = omega (arith, eqb-true (nat_abs v) 0 e)
 

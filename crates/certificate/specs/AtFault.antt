@@ -1,7 +1,7 @@
 -- The cell at fault: of the test by which a record is refused, the first cell that fails it.
 use Rattle.std.specs.Prelude.{Bool, false, ◌&&◌, not, List, [], ◌∷◌, ℕ, eqb}
 use Rattle.std.proofs.Math.Option.{Option, none, some}
-use Rattle.whole.specs.Choice.{if◌then◌else◌}
+use Rattle.whole.specs.Choice.{if◌then◌otherwise◌}
 use Rattle.quantity.specs.Outcomes.{number_given}
 use Rattle.purity.specs.Purity.{by_gallium_or_mercury, by_silver}
 use Rattle.law.specs.declared.cell.Cell.{Cell}
@@ -19,7 +19,7 @@ use Rattle.certificate.specs.Resistances.{cell_outside, ratios_of, resistances_o
 -- Of a list, the first cell of which something holds.
 abbrev pub first : (Cell → Bool) → List Cell → Option Cell
 first holds [] = none
-first holds (p ∷ ps) = if holds p then some p else first holds ps
+first holds (p ∷ ps) = if holds p then some p otherwise first holds ps
 
 -- Neither W(Ga) nor W(Hg) meets its relation.
 abbrev pub neither_met : Record → Bool
@@ -41,10 +41,10 @@ breaks_purity s ratios cell.Ag = to_silver (carried s).form && not (by_silver (r
 abbrev pub cell_for : Subrange → Record → ℕ → Option Cell
 cell_for s ratios number =
     if eqb number 2 then first (is_above ratios) all_cells
-    else if eqb number 4 then first (is_missing ratios) (cells s)
-    else if eqb number 6 then first (breaks_purity s ratios) all_cells
-    else if eqb number 7 then first (cell_deviates ratios) all_cells
-    else none
+    otherwise if eqb number 4 then first (is_missing ratios) (cells s)
+    otherwise if eqb number 6 then first (breaks_purity s ratios) all_cells
+    otherwise if eqb number 7 then first (cell_deviates ratios) all_cells
+    otherwise none
 
 -- By the number that the tests of a record of a known subrange give. Where 7 is given for a coefficient, no cell deviates, and there is none.
 unfoldable pub at_fault : Subrange → Record → Option Cell
@@ -52,7 +52,7 @@ at_fault s ratios = cell_for s ratios (number_given (record_of s ratios).tests)
 
 -- The same by resistances, which have 1 besides.
 abbrev pub cell_for_by : Subrange → Resistances → ℕ → Option Cell
-cell_for_by s resistances number = if eqb number 1 then first (cell_outside resistances) all_cells else cell_for s (ratios_of resistances) number
+cell_for_by s resistances number = if eqb number 1 then first (cell_outside resistances) all_cells otherwise cell_for s (ratios_of resistances) number
 
 unfoldable pub at_fault_by : Subrange → Resistances → Option Cell
 at_fault_by s resistances = cell_for_by s resistances (number_given (resistances_of s resistances).tests)
@@ -77,4 +77,4 @@ stated_cell Nowhere = none
 -- The cell found before, else this one where something holds of it.
 abbrev pub found_or : Option Cell → Cell → Bool → Option Cell
 found_or (some found) p holds = some found
-found_or none p holds = if holds then some p else none
+found_or none p holds = if holds then some p otherwise none

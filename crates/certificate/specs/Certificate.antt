@@ -1,7 +1,7 @@
 -- A certificate, whether it is sound, and what is answered to a given one.
 use Rattle.std.specs.Prelude.{◌≡◌, Bool, ◌&&◌, not, List, [], ◌∷◌, ℕ, leb, ltb, eqb, ℤ, pos, nat_abs}
 use Rattle.std.proofs.Math.Option.{Option, none, some}
-use Rattle.whole.specs.Choice.{if◌then◌else◌}
+use Rattle.whole.specs.Choice.{if◌then◌otherwise◌}
 use Rattle.quantity.specs.Refusals.{number_of}
 use Rattle.quantity.specs.Outcomes.{Outcome, answered, refused, Test, ◌gives◌, Rule, if_named}
 use Rattle.law.specs.declared.cell.Cell.TheVariants as cell
@@ -17,11 +17,11 @@ use Rattle.certificate.specs.declared.soundness.CertificateAnswer.TheVariants as
 
 -- Places 0 to 3 are a to d. Each of the first `used` keeps the limit, any other holds 0.
 abbrev pub place_kept : ℕ → ℕ → ℤ → Bool
-place_kept used place value = if ltb place used then leb (nat_abs value) largest_coefficient else eqb (nat_abs value) 0
+place_kept used place value = if ltb place used then leb (nat_abs value) largest_coefficient otherwise eqb (nat_abs value) 0
 
 -- W(Al) keeps its deviation limit in an ag certificate and is 0 in any other.
 abbrev pub aluminium_kept : Law → ℕ → Bool
-aluminium_kept law wal = if law_silver law then within (Wr cell.Al) wal else eqb wal 0
+aluminium_kept law wal = if law_silver law then within (Wr cell.Al) wal otherwise eqb wal 0
 
 -- Each used place keeps its limit and each unused one is 0.
 abbrev pub sound : Certificate → Bool

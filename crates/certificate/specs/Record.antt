@@ -1,7 +1,7 @@
 -- From a record of cell ratios to a certificate, or the number given instead.
 use Rattle.std.specs.Prelude.{Bool, ◌&&◌, ◌||◌, not, ◌≡◌, List, [], ◌∷◌, map, ℕ, ltb}
 use Rattle.whole.specs.Any.{any}
-use Rattle.whole.specs.Choice.{if◌then◌else◌}
+use Rattle.whole.specs.Choice.{if◌then◌otherwise◌}
 use Rattle.quantity.specs.Quantities.{largest_ratio}
 use Rattle.quantity.specs.Outcomes.{◌gives◌, Rule, if_named}
 use Rattle.purity.specs.Purity.{is_measured, pure}
@@ -72,7 +72,7 @@ fitted ratios used = fit (map (point ratios) used)
 
 -- W(Al), which only an ag certificate holds.
 abbrev pub aluminium_ratio : Subrange → Record → ℕ
-aluminium_ratio s ratios = if to_silver (carried s).form then ratio ratios cell.Al else 0
+aluminium_ratio s ratios = if to_silver (carried s).form then ratio ratios cell.Al otherwise 0
 
 -- The certificate of a subrange: a, b, c, d and, for ag, W(Al). Unused places hold 0.
 abbrev pub made : Subrange → Record → Certificate

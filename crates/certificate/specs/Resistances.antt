@@ -1,7 +1,7 @@
 -- From a record given as resistances to a certificate, or the number given instead.
 use Rattle.std.specs.Prelude.{Bool, ◌&&◌, not, ◌∷◌, ℕ, eqb}
 use Rattle.whole.specs.Any.{any}
-use Rattle.whole.specs.Choice.{if◌then◌else◌}
+use Rattle.whole.specs.Choice.{if◌then◌otherwise◌}
 use Rattle.quantity.specs.Quantities.{largest_resistance, is_reading_up_to, is_divisor_up_to, ratio_of}
 use Rattle.quantity.specs.Outcomes.{◌gives◌, Rule, if_named}
 use Rattle.law.specs.declared.cell.Cell.{Cell}
@@ -31,7 +31,7 @@ is_given p = not (eqb p.r.0 0 && eqb p.r0.0 0)
 
 -- W = R/R0 of a cell given, 0 of any other.
 abbrev pub cell_ratio : Pair → ℕ
-cell_ratio p = if is_given p then ratio_of p.r.0 p.r0.0 else 0
+cell_ratio p = if is_given p then ratio_of p.r.0 p.r0.0 otherwise 0
 
 -- A cell given whose R or R0 is outside its limits.
 abbrev pub is_outside_up_to : ℕ → Pair → Bool

@@ -4,7 +4,7 @@ use mathlib.Core.Bool.{Bool, true, false}
 use Prim.Native.Nat.{◌^◌}
 use lib.IntN.{ℤ, pos, pow, one, ◌+ℤ◌, ◌*ℤ◌, *ℤ_comm, *ℤ-one}
 use lib.Signed.{lt_z}
-use Rattle.whole.specs.Choice.{if◌then◌else◌}
+use Rattle.whole.specs.Choice.{if◌then◌otherwise◌}
 use Rattle.exact.specs.Fraction.{Fraction, decimal, integer, ◌+ᶠ◌, ◌-ᶠ◌, ◌*ᶠ◌, ◌^ᶠ◌}
 use Rattle.exact.proofs.Fractions.{Is, is_itself, is_integer, is_scaled, is_add, is_sub, is_mul, is_power}
 use Rattle.curve.specs.Curve.{A, B, C, standard, quadratic, quartic, exact}
@@ -41,7 +41,7 @@ module _ (n : ℤ) where
       let d = is_sub (is_itself t) (is_integer (pos 100) (10 ^ 4)) in
       rw (cube n) at (is_mul (is_mul (is_itself C) d) (is_power (is_itself t) 3))
 
-  is-either : (cold : Bool) → Is (if cold then warm +ᶠ more else warm) (if cold then quadratic n +ℤ quartic n else quadratic n) (10 ^ 31)
+  is-either : (cold : Bool) → Is (if cold then warm +ᶠ more otherwise warm) (if cold then quadratic n +ℤ quartic n otherwise quadratic n) (10 ^ 31)
   is-either true = is_add is-quadratic is-quartic
   is-either false = is-quadratic
 

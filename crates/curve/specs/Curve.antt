@@ -1,7 +1,7 @@
 -- The curve of IEC 60751: with t in °C, R/R0 = 1 + At + Bt², and below 0 °C also + C(t - 100)t³.
 use Rattle.std.specs.Prelude.{ℕ, ◌*◌, ◌^◌, ℤ, pos, neg_ℤ, ◌+ℤ◌, ◌-ℤ◌, ◌*ℤ◌}
 use Rattle.std.specs.Int.Signed.{lt_z}
-use Rattle.whole.specs.Choice.{if◌then◌else◌}
+use Rattle.whole.specs.Choice.{if◌then◌otherwise◌}
 use Rattle.exact.specs.Fraction.{Fraction, decimal, integer, ◌+ᶠ◌, ◌-ᶠ◌, ◌*ᶠ◌, ◌^ᶠ◌}
 
 -- A = 3.9083·10^-3
@@ -21,7 +21,7 @@ unfoldable pub standard : ℤ → Fraction
 standard n =
     let t = decimal n 4 in
     if lt_z n (pos 0) then integer (pos 1) +ᶠ A *ᶠ t +ᶠ B *ᶠ t ^ᶠ 2 +ᶠ C *ᶠ (t -ᶠ integer (pos 100)) *ᶠ t ^ᶠ 3
-    else integer (pos 1) +ᶠ A *ᶠ t +ᶠ B *ᶠ t ^ᶠ 2
+    otherwise integer (pos 1) +ᶠ A *ᶠ t +ᶠ B *ᶠ t ^ᶠ 2
 
 -- The same times 10^31, a whole number: At has 7 + 4 decimals and Bt² has 10 + 8, so they take the factors 10^20 and 10^13; C(t - 100)t³ has
 -- 15 + 4 + 12 and takes none. 100 °C are 1,000,000 steps.
@@ -33,7 +33,7 @@ quartic n = C.num *ℤ (n -ℤ pos 1_000_000) *ℤ (n *ℤ n *ℤ n)
 
 -- The exact ratio R/R0 at a step, in units of 10^-31: nothing is rounded.
 unfoldable pub exact : ℤ → ℤ
-exact n = if lt_z n (pos 0) then quadratic n +ℤ quartic n else quadratic n
+exact n = if lt_z n (pos 0) then quadratic n +ℤ quartic n otherwise quadratic n
 
 -- How many of these make a unit of 10^-9.
 abbrev pub per_unit : ℕ

@@ -2,7 +2,7 @@
 use Rattle.std.specs.Prelude.{◌≡◌, Bool, false, ◌++◌, ℕ, ◌+◌, ◌*◌, eqb, leb, ℤ, pos, nat_abs, ◌-ℤ◌}
 use Rattle.std.proofs.Math.Option.{Option, none, some}
 use Prim.Native.Char.{code}
-use Rattle.whole.specs.Choice.{if◌then◌else◌}
+use Rattle.whole.specs.Choice.{if◌then◌otherwise◌}
 use Rattle.quantity.specs.Quantities.{largest_resistance, ratio_of}
 use Rattle.quantity.specs.Refusals.{number_of}
 use Rattle.quantity.specs.Outcomes.{Outcome, answered, refused, Rule, if_named}
@@ -31,8 +31,8 @@ class_b = record { top = last; fixed = 3_000; slope = 5 }
 abbrev pub class_named : ℕ → Option Class
 class_named letter =
     if eqb letter (code "A") then some class_a
-    else if eqb letter (code "B") then some class_b
-    else none
+    otherwise if eqb letter (code "B") then some class_b
+    otherwise none
 
 -- The limit itself passes. Both sides are multiplied by 1000, so that nothing is rounded.
 abbrev pub allows : Class → ℤ → ℤ → Bool

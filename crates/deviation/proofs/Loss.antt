@@ -6,7 +6,7 @@ use Prim.Native.Nat.{ℕ, ◌*◌, ◌<◌, ◌≤◌}
 use native.Mathlib.Omega.{arith}
 use lib.Signed.{◌<ℤ◌}
 use lib.IntN.{ℤ, pos, nat_abs, pow, one as oneℤ, ◌+ℤ◌, ◌-ℤ◌, ◌*ℤ◌, *ℤ_comm, *ℤ-one, +ℤ_idl, +ℤ_assoc, zero-*ℤ}
-use Rattle.whole.specs.Choice.{if◌then◌else◌}
+use Rattle.whole.specs.Choice.{if◌then◌otherwise◌}
 use Rattle.whole.proofs.Parts.{ints, one_part, abs_parts, add_parts, sub_parts, mul_parts}
 use Rattle.whole.proofs.Ring.{*ℤ-assoc, *ℤ-distribˡ, *ℤ-subʳ}
 use Rattle.exact.specs.Fraction.{integer, ◌+ᶠ◌, ◌*ᶠ◌, ◌^ᶠ◌}
@@ -68,7 +68,7 @@ module _ (form : Form) (k : Places) (w : ℕ) where
   silver_up = scaled one (z k w) (pos 0) (pos 0 ∷ k.d ∷ [])
 
   silver_part : ℤ
-  silver_part = if has_d_term form k w then silver_up *ℤ pos one else pos 0
+  silver_part = if has_d_term form k w then silver_up *ℤ pos one otherwise pos 0
 
   is_plain : Is (integer k.a *ᶠ exact_ratio (x w) +ᶠ integer k.b *ᶠ exact_ratio (x w) ^ᶠ 2 +ᶠ integer k.c *ᶠ exact_ratio (x w) ^ᶠ 3) plain_up cubed
   unfolding plain_up scaled
@@ -92,7 +92,7 @@ module _ (form : Form) (k : Places) (w : ℕ) where
   unfolding exact_deviation silver_part scaled_deviation
   is-deviation = is_add is_plain (by (has_d_term form k w))
     where
-      by : (t : Bool) → Is (if t then integer k.d *ᶠ exact_ratio (z k w) ^ᶠ 2 else integer (pos 0)) (if t then silver_up *ℤ pos one else pos 0) cubed
+      by : (t : Bool) → Is (if t then integer k.d *ᶠ exact_ratio (z k w) ^ᶠ 2 otherwise integer (pos 0)) (if t then silver_up *ℤ pos one otherwise pos 0) cubed
       by true = is-silver
       by false = is_integer (pos 0) cubed
 
@@ -105,7 +105,7 @@ module _ (form : Form) (k : Places) (w : ℕ) where
     unfolding d_term silver_part silver_up loss
     silver-lost = by (has_d_term form k w) refl
       where
-        by : (t : Bool) → has_d_term form k w ≡ t → nat_abs ((if t then rounded one (z k w) (pos 0) (pos 0 ∷ k.d ∷ []) else pos 0) *ℤ pos cubed -ℤ (if t then scaled one (z k w) (pos 0) (pos 0 ∷ k.d ∷ []) *ℤ pos one else pos 0)) ≤ 2_030_000_000_000_000_000_000_000_000
+        by : (t : Bool) → has_d_term form k w ≡ t → nat_abs ((if t then rounded one (z k w) (pos 0) (pos 0 ∷ k.d ∷ []) otherwise pos 0) *ℤ pos cubed -ℤ (if t then scaled one (z k w) (pos 0) (pos 0 ∷ k.d ∷ []) *ℤ pos one otherwise pos 0)) ≤ 2_030_000_000_000_000_000_000_000_000
         by true e =
             let q = rounded one (z k w) (pos 0) (pos 0 ∷ k.d ∷ []) in
             let y = scaled one (z k w) (pos 0) (pos 0 ∷ k.d ∷ []) in

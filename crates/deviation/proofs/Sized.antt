@@ -7,7 +7,7 @@ use native.Mathlib.Omega.{arith}
 use borrow.Author.Tests.{leb-true, leb-false}
 use lib.Dec.{leb}
 use lib.IntN.{ℤ, pos, nat_abs, ◌+ℤ◌, ◌*ℤ◌}
-use Rattle.whole.specs.Choice.{if◌then◌else◌}
+use Rattle.whole.specs.Choice.{if◌then◌otherwise◌}
 use Rattle.whole.specs.Floor.{floor}
 use Rattle.whole.proofs.Choice.{and_true}
 use Rattle.whole.proofs.Parts.{up, dn, one_part, abs_parts, sub_parts}
@@ -106,7 +106,7 @@ module _ (form : Form) (k : Places) (s : Limited form k) where
     unfolding d_term size
     silver-size = by (has_d_term form k w) refl
       where
-        by : (t : Bool) → has_d_term form k w ≡ t → nat_abs (if t then rounded one (z k w) (pos 0) (pos 0 ∷ k.d ∷ []) else pos 0) ≤ 200_000_000
+        by : (t : Bool) → has_d_term form k w ≡ t → nat_abs (if t then rounded one (z k w) (pos 0) (pos 0 ∷ k.d ∷ []) otherwise pos 0) ≤ 200_000_000
         by true e = omega (arith, abs-rounded one 1_030_000_000 (omega arith) (z k w) (z-size e) (pos 0) 0 (omega arith) od)
         by false e = omega arith
 

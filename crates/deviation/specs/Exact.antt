@@ -1,6 +1,6 @@
 -- The deviation function of ITS-90 without rounding, in units of 10^-11.
 use Rattle.std.specs.Prelude.{ℕ, ◌*◌, ℤ, pos}
-use Rattle.whole.specs.Choice.{if◌then◌else◌}
+use Rattle.whole.specs.Choice.{if◌then◌otherwise◌}
 use Rattle.exact.specs.Fraction.{Fraction, decimal, integer, ◌+ᶠ◌, ◌-ᶠ◌, ◌*ᶠ◌, ◌^ᶠ◌}
 use Rattle.law.specs.declared.subrange.Form.{Form}
 use Rattle.deviation.specs.declared.places.Places.{Places}
@@ -15,7 +15,7 @@ exact_ratio n = decimal n 9
 unfoldable pub exact_deviation : Form → Places → ℕ → Fraction
 exact_deviation form k w =
     integer k.a *ᶠ exact_ratio (x w) +ᶠ integer k.b *ᶠ exact_ratio (x w) ^ᶠ 2 +ᶠ integer k.c *ᶠ exact_ratio (x w) ^ᶠ 3
-    +ᶠ (if has_d_term form k w then integer k.d *ᶠ exact_ratio (z k w) ^ᶠ 2 else integer (pos 0))
+    +ᶠ (if has_d_term form k w then integer k.d *ᶠ exact_ratio (z k w) ^ᶠ 2 otherwise integer (pos 0))
 
 -- W less the exact deviation.
 unfoldable pub exact_wr : Form → Places → ℕ → Fraction

@@ -1,7 +1,7 @@
 -- "From resistance to temperature": the working deviation at a ratio W, by the form of a deviation function and the places of a certificate, and Wr. Ratios are
 -- in units of 10^-9, deviations and Wr in units of 10^-11.
 use Rattle.std.specs.Prelude.{Bool, ◌&&◌, [], ◌∷◌, ℕ, ◌*◌, leb, ℤ, pos, ◌+ℤ◌, ◌-ℤ◌}
-use Rattle.whole.specs.Choice.{if◌then◌else◌}
+use Rattle.whole.specs.Choice.{if◌then◌otherwise◌}
 use Rattle.exact.specs.Polynomial.{rounded}
 use Rattle.quantity.specs.Quantities.{one}
 use Rattle.law.specs.declared.subrange.Form.{Form}
@@ -23,7 +23,7 @@ z k w = pos w -ℤ pos k.wal.0
 
 -- The d term: d·z², which is 0 + 0·z + d·z², rounded down after each of its two products.
 unfoldable pub d_term : Form → Places → ℕ → ℤ
-d_term form k w = if has_d_term form k w then rounded one (z k w) (pos 0) (pos 0 ∷ k.d ∷ []) else pos 0
+d_term form k w = if has_d_term form k w then rounded one (z k w) (pos 0) (pos 0 ∷ k.d ∷ []) otherwise pos 0
 
 -- The working deviation.
 unfoldable pub deviation : Form → Places → ℕ → ℤ

@@ -4,7 +4,7 @@ use mathlib.Core.Bool.{Bool, true, false, ◌||◌, not}
 use mathlib.Core.Option.{Option, none, some}
 use Prim.Native.Nat.{ℕ}
 use lib.Dec.{eqb}
-use Rattle.whole.specs.Choice.{if◌then◌else◌}
+use Rattle.whole.specs.Choice.{if◌then◌otherwise◌}
 use Rattle.quantity.specs.Outcomes.{number_given, if_named}
 use Rattle.law.specs.declared.laws.Law.{Law}
 use Rattle.law.specs.Subranges.{law_named}
@@ -19,14 +19,14 @@ fault_by named k = number_given (if_named no_places named (λ law. given_by law 
 pub known_no_3 : (law : Law) (k : Given) → eqb (fault_by (some law) k) 3 ≡ false
 known_no_3 law k = by (sound (certificate_of law k))
   where
-    by : (t : Bool) → eqb (if not t then 7 else 0) 3 ≡ false
+    by : (t : Bool) → eqb (if not t then 7 otherwise 0) 3 ≡ false
     by true = refl
     by false = refl
 
 pub known_7 : (law : Law) (k : Given) → eqb (fault_by (some law) k) 7 ≡ not (sound (certificate_of law k))
 known_7 law k = by (sound (certificate_of law k))
   where
-    by : (t : Bool) → eqb (if not t then 7 else 0) 7 ≡ not t
+    by : (t : Bool) → eqb (if not t then 7 otherwise 0) 7 ≡ not t
     by true = refl
     by false = refl
 
@@ -34,7 +34,7 @@ known_7 law k = by (sound (certificate_of law k))
 pub bad_by : (k : Given) → (is_unknown k || is_unsound k) ≡ is_bad k
 bad_by k = by (law_named k.law.0)
   where
-    known : (t : Bool) → (eqb (if not t then 7 else 0) 3 || eqb (if not t then 7 else 0) 7) ≡ not (eqb (if not t then 7 else 0) 0)
+    known : (t : Bool) → (eqb (if not t then 7 otherwise 0) 3 || eqb (if not t then 7 otherwise 0) 7) ≡ not (eqb (if not t then 7 otherwise 0) 0)
     known true = refl
     known false = refl
 

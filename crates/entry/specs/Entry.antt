@@ -1,7 +1,7 @@
 -- An entry of the register: a thermometer's number, the certificate and its serial, and the mark, the serial up to which certificates are withdrawn.
 use Rattle.std.specs.Prelude.{Bool, ◌&&◌, not, ℕ, eqb, ltb, ℤ}
 use Rattle.std.specs.Int.Signed.{lt_z}
-use Rattle.whole.specs.Choice.{if◌then◌else◌}
+use Rattle.whole.specs.Choice.{if◌then◌otherwise◌}
 use Rattle.quantity.specs.Outcomes.{number_given}
 use Rattle.deviation.specs.declared.places.Places.{Places}
 use Rattle.certificate.specs.declared.soundness.Given.{Given}
@@ -56,7 +56,7 @@ abbrev pub clash : Entry → Entry → Bool
 clash held e = not (is_free held) && eqb held.serial.0 e.serial.0 && not (same held.certificate e.certificate)
 
 abbrev pub higher : Serial → Serial → Serial
-higher x y = if ltb x.0 y.0 then y else x
+higher x y = if ltb x.0 y.0 then y otherwise x
 
 -- Two entries of one thermometer: the higher serial with its certificate, and the higher mark.
 abbrev pub merged : Entry → Entry → Entry
@@ -65,12 +65,12 @@ merged held e =
       number = held.number;
       serial = higher held.serial e.serial;
       mark = higher held.mark e.mark;
-      certificate = if ltb held.serial.0 e.serial.0 then e.certificate else held.certificate;
+      certificate = if ltb held.serial.0 e.serial.0 then e.certificate otherwise held.certificate;
     }
 
 -- What is held of a thermometer once an entry has come in: a new one's entry, else the two merged.
 abbrev pub joined : Entry → Entry → Entry
-joined held e = if is_free held then e else merged held e
+joined held e = if is_free held then e otherwise merged held e
 
 -- A withdrawal raises the mark to a serial and never lowers it.
 abbrev pub raised : Entry → Serial → Entry

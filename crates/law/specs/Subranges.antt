@@ -1,7 +1,7 @@
 -- The subranges of the scale, one row each, and the laws.
 use Rattle.std.specs.Prelude.{Bool, true, false, List, [], ◌∷◌, map, ℕ, eqb, ℤ, pos, length}
 use Rattle.std.proofs.Math.Option.{Option, none, some}
-use Rattle.whole.specs.Choice.{if◌then◌else◌}
+use Rattle.whole.specs.Choice.{if◌then◌otherwise◌}
 use Rattle.law.specs.declared.cell.Cell.{Cell}
 use Rattle.law.specs.declared.cell.Cell.TheVariants as cell
 use Rattle.law.specs.declared.subrange.Subrange.{Subrange}
@@ -54,7 +54,7 @@ coefficients s = length (cells s)
 -- The first of a list that has the name, if any.
 abbrev pub first_named : {A : Type 0} → (A → ℕ) → ℕ → List A → Option A
 first_named name_of n [] = none
-first_named name_of n (x ∷ xs) = if eqb n (name_of x) then some x else first_named name_of n xs
+first_named name_of n (x ∷ xs) = if eqb n (name_of x) then some x otherwise first_named name_of n xs
 
 -- The subrange that a name names.
 abbrev pub subrange_named : ℕ → Option Subrange

@@ -7,7 +7,7 @@ use Prim.Native.Nat.{ℕ, ◌+◌, ◌≤◌, ◌<◌}
 use lib.Dec.{leb}
 use lib.ListN.{length, drop, length-append}
 use borrow.Author.Tests.{le-leb, lt-leb, leb-true}
-use Rattle.whole.specs.Choice.{if◌then◌else◌}
+use Rattle.whole.specs.Choice.{if◌then◌otherwise◌}
 use Rattle.line.specs.declared.lent.LineAnswer.{LineAnswer}
 use Rattle.line.specs.declared.lent.Placing.{Placing}
 use Rattle.line.specs.Lent.{Placed, PlacedAs}
@@ -65,6 +65,6 @@ pub placed-within : (number : ℕ) (text out out' : List ℕ) (x : LineAnswer) �
 placed-within number text out out' x = by (leb (length text) (length out)) refl
   where
     by : (t : Bool) → leb (length text) (length out) ≡ t
-        → (if t then (x ≡ record { code = number; wrote = length text }) × (out' ≡ text ++ drop (length text) out) else (x ≡ without_room.answer) × (out' ≡ out)) → x.wrote ≤ length out
+        → (if t then (x ≡ record { code = number; wrote = length text }) × (out' ≡ text ++ drop (length text) out) otherwise (x ≡ without_room.answer) × (out' ≡ out)) → x.wrote ≤ length out
     by true e (p, q) = omega (arith, ap (λ (a : LineAnswer). a.wrote) p, leb-true (length text) (length out) e)
     by false e (p, q) = omega (arith, ap (λ (a : LineAnswer). a.wrote) p)

@@ -10,7 +10,7 @@ use lib.Dec.{eqb}
 use lib.IntN.{ℤ, pos, negsuc, nat_abs}
 use lib.ListN.{length}
 use borrow.Author.Tests.{eqb-true}
-use Rattle.whole.specs.Choice.{if◌then◌else◌}
+use Rattle.whole.specs.Choice.{if◌then◌otherwise◌}
 use Rattle.quantity.specs.Outcomes.{Outcome, number_given, Rule, Follows, if_named}
 use Rattle.quantity.proofs.Outcomes.{answer-follows, code-is-given, most, number_most}
 use Rattle.text.specs.Decimal.{signed_decimal}
@@ -60,6 +60,6 @@ module _ (kind : Kind) (bytes : ℕ) {B : Type 0} (zeros : kind.Answer) (found :
   pub small_row : Follows (if_named zeros found rule) o → Small kind bytes o
   small_row h = record { code = one-digit found h; own = by (eqb o.code 0) refl }
     where
-      by : (answered : Bool) → eqb o.code 0 ≡ answered → length (commaed (if answered then kind.written o.answer else blanks kind.own)) ≤ bytes
+      by : (answered : Bool) → eqb o.code 0 ≡ answered → length (commaed (if answered then kind.written o.answer otherwise blanks kind.own)) ≤ bytes
       by true e = own-short found refl (eqb-true o.code 0 e) h
       by false e = blank

@@ -9,7 +9,7 @@ use native.Mathlib.Omega.{arith}
 use lib.Dec.{leb, eqb}
 use lib.ListN.{length, length-append}
 use borrow.Author.Tests.{le-leb, eq-eqb, ne_eqb}
-use Rattle.whole.specs.Choice.{if◌then◌else◌}
+use Rattle.whole.specs.Choice.{if◌then◌otherwise◌}
 use Rattle.whole.specs.Text.{ascii}
 use Rattle.whole.proofs.Choice.{if_both}
 use Rattle.quantity.specs.Outcomes.{Outcome, Follows}
@@ -133,7 +133,7 @@ module _ (kind : Kind) (bytes : ℕ) (small : (row : List Value) (o : Outcome ki
   others_blank line n t h not-read not-14 = by (fault_of kind.columns line) h
     where
       by : (found : Option Fault) → AnsweredBy kind line found n t
-          → t ≡ (if is_fault n then answer_line (ascii "?") (ascii "?") (blanks kind.own) n else answer_line (field_at 0 line) (field_at 1 line) (blanks kind.own) n)
+          → t ≡ (if is_fault n then answer_line (ascii "?") (ascii "?") (blanks kind.own) n otherwise answer_line (field_at 0 line) (field_at 1 line) (blanks kind.own) n)
       by none (o, h, e, f) =
           let own : own_columns kind o ≡ blanks kind.own = rw (ne_eqb o.code 0 (λ z. not-read (e ∙ z))) in
           rw (few_no_fault n (omega (arith, e, (small (values kind.columns line) o h).code)))

@@ -2,7 +2,7 @@
 use Rattle.std.specs.Prelude.{◌≡◌, Bool, ◌||◌, List, [], ◌∷◌, ◌++◌, map, ℕ, eqb}
 use Rattle.std.proofs.Math.Option.{Option, none, some}
 use Prim.Native.String.{String}
-use Rattle.whole.specs.Choice.{if◌then◌else◌}
+use Rattle.whole.specs.Choice.{if◌then◌otherwise◌}
 use Rattle.whole.specs.Text.{ascii}
 use Rattle.quantity.specs.Refusals.{number_of}
 use Rattle.quantity.specs.declared.refusal.Refusal.{Refusal}
@@ -45,7 +45,7 @@ blanks (title ∷ titles) = [] ∷ blanks titles
 
 -- The own columns: what is answered, empty where the row is refused.
 abbrev pub own_columns : (kind : Kind) → Outcome kind.Answer → List (List ℕ)
-own_columns kind o = if eqb o.code 0 then kind.written o.answer else blanks kind.own
+own_columns kind o = if eqb o.code 0 then kind.written o.answer otherwise blanks kind.own
 
 -- What is answered to a row: by the kind's rule, in a line that repeats the row's first two fields.
 abbrev pub RowAnswered : Kind → List ℕ → ℕ → List ℕ → Type 0

@@ -1,6 +1,6 @@
 -- The answer to a line in a lent buffer.
 use Rattle.std.specs.Prelude.{◌≡◌, List, ◌++◌, ℕ, leb, length, drop}
-use Rattle.whole.specs.Choice.{if◌then◌else◌}
+use Rattle.whole.specs.Choice.{if◌then◌otherwise◌}
 use Rattle.quantity.specs.Refusals.{number_of}
 use Rattle.quantity.specs.declared.refusal.Refusal.TheVariants.{BufferShort}
 use Rattle.line.specs.declared.lent.LineAnswer.{LineAnswer}
@@ -11,7 +11,7 @@ use Rattle.line.specs.Kinds.{Kind, Answered}
 abbrev pub Placed : ℕ → List ℕ → List ℕ → List ℕ → LineAnswer → Type 0
 Placed number text out out' x =
     if leb (length text) (length out) then (x ≡ record { code = number; wrote = length text }) × (out' ≡ text ++ drop (length text) out)
-    else (x ≡ record { code = number_of BufferShort; wrote = 0 }) × (out' ≡ out)
+    otherwise (x ≡ record { code = number_of BufferShort; wrote = 0 }) × (out' ≡ out)
 
 -- What answering a line promises of the number, the count of bytes written and every byte of the buffer.
 abbrev pub AnsweredInto : Kind → List ℕ → List ℕ → List ℕ → LineAnswer → Type 0

@@ -1,7 +1,7 @@
 -- What is promised of answers to lines besides each call's own outcome.
 use Rattle.std.specs.Prelude.{◌≡◌, Bool, true, false, ◌||◌, List, map, ℕ, ◌≤◌, leb, eqb, length}
 use Rattle.std.proofs.Math.Option.{none}
-use Rattle.whole.specs.Choice.{if◌then◌else◌}
+use Rattle.whole.specs.Choice.{if◌then◌otherwise◌}
 use Rattle.whole.specs.Text.{ascii}
 use Rattle.quantity.specs.Refusals.{number_of}
 use Rattle.quantity.specs.declared.refusal.Refusal.TheVariants.{ResistanceOutside, FieldBroken}
@@ -37,7 +37,7 @@ NumbersOfLines kind = (line : List ℕ) (number : ℕ) (text : List ℕ) → Ans
 abbrev pub OthersBlank : Kind → Type 0
 OthersBlank kind =
     (line : List ℕ) (number : ℕ) (text : List ℕ) → Answered kind line number text → (number ≡ 0 → ⊥) → (number ≡ number_of FieldBroken → ⊥)
-    → text ≡ (if is_fault number then answer_line (ascii "?") (ascii "?") (blanks kind.own) number else answer_line (field_at 0 line) (field_at 1 line) (blanks kind.own) number)
+    → text ≡ (if is_fault number then answer_line (ascii "?") (ascii "?") (blanks kind.own) number otherwise answer_line (field_at 0 line) (field_at 1 line) (blanks kind.own) number)
 
 -- And the number that it carries is that of the first field from the left that breaks its rule, counted from 1.
 abbrev pub FieldNamed : Kind → Type 0
@@ -50,7 +50,7 @@ FieldNamed kind =
 abbrev pub AnsweredBefore : Kind → List ℕ → ℕ → List ℕ → Type 0
 AnsweredBefore kind line number text =
     if well_formed kind.columns line then RowAnswered kind line number text
-    else (number ≡ 10) × (text ≡ answer_line (ascii "?") (ascii "?") (blanks kind.own) 10)
+    otherwise (number ≡ 10) × (text ≡ answer_line (ascii "?") (ascii "?") (blanks kind.own) 10)
 
 -- A line is 12, 13 or 14 exactly when it was 10, and any other line is answered by the same number and the same bytes.
 abbrev pub WereTens : Kind → Type 0

@@ -10,7 +10,7 @@ use lib.Dec.{eqb}
 use lib.ListN.{length, take, length-append}
 use lib.Seq.{take-suc, take_all, take-append-le, take_at, length-take-le}
 use borrow.Author.Tests.{le-leb, lt-leb}
-use Rattle.whole.specs.Choice.{if◌then◌else◌}
+use Rattle.whole.specs.Choice.{if◌then◌otherwise◌}
 use Rattle.lines.specs.Lines.{last_byte, ends_line, begun}
 use Rattle.lines.specs.Held.{most_held, capped}
 use Rattle.lines.proofs.Lines.{last_more}
@@ -79,7 +79,7 @@ pub alike-begun : {p q : List ℕ} → Alike p q → (s : List ℕ) → Alike (b
 alike-begun a [] = a
 alike-begun {p} {q} a (b ∷ s) = rw (alike-ends a b) (by (ends_line q b) (alike-begun (alike-byte a b) s))
   where
-    by : (t : Bool) → Alike (begun (p ++ (b ∷ [])) s) (begun (q ++ (b ∷ [])) s) → Alike (if t then begun [] s else begun (p ++ (b ∷ [])) s) (if t then begun [] s else begun (q ++ (b ∷ [])) s)
+    by : (t : Bool) → Alike (begun (p ++ (b ∷ [])) s) (begun (q ++ (b ∷ [])) s) → Alike (if t then begun [] s otherwise begun (p ++ (b ∷ [])) s) (if t then begun [] s otherwise begun (q ++ (b ∷ [])) s)
     by true k = equal refl
     by false k = k
 

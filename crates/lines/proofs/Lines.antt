@@ -9,7 +9,7 @@ use native.Mathlib.Numerals.{add-one}
 use lib.Dec.{eqb}
 use lib.ListN.{length, get_or, take, drop, length-append, length-drop}
 use lib.Seq.{take-add, take-suc, take-take, get_or-append_seam, get_or-drop, length-take-le}
-use Rattle.whole.specs.Choice.{if◌then◌else◌}
+use Rattle.whole.specs.Choice.{if◌then◌otherwise◌}
 use Rattle.whole.proofs.Choice.{and_true}
 use Rattle.lines.specs.Lines.{last_byte, all_but_last, ends_line, ended, begun}
 use Rattle.lines.specs.Ends.{EndsAt}
@@ -20,8 +20,8 @@ ended-append line (b ∷ x) y = by (ends_line line b) (ended-append [] x y) (end
   where
     by : (t : Bool) → ended [] (x ++ y) ≡ ended [] x ++ ended (begun [] x) y
         → ended (line ++ (b ∷ [])) (x ++ y) ≡ ended (line ++ (b ∷ [])) x ++ ended (begun (line ++ (b ∷ [])) x) y
-        → (if t then all_but_last line ∷ ended [] (x ++ y) else ended (line ++ (b ∷ [])) (x ++ y))
-        ≡ (if t then all_but_last line ∷ ended [] x else ended (line ++ (b ∷ [])) x) ++ ended (if t then begun [] x else begun (line ++ (b ∷ [])) x) y
+        → (if t then all_but_last line ∷ ended [] (x ++ y) otherwise ended (line ++ (b ∷ [])) (x ++ y))
+        ≡ (if t then all_but_last line ∷ ended [] x otherwise ended (line ++ (b ∷ [])) x) ++ ended (if t then begun [] x otherwise begun (line ++ (b ∷ [])) x) y
     by true p q = ap (λ (ls : List (List ℕ)). all_but_last line ∷ ls) p
     by false p q = q
 
@@ -30,7 +30,7 @@ begun-append line [] y = refl
 begun-append line (b ∷ x) y = by (ends_line line b) (begun-append [] x y) (begun-append (line ++ (b ∷ [])) x y)
   where
     by : (t : Bool) → begun [] (x ++ y) ≡ begun (begun [] x) y → begun (line ++ (b ∷ [])) (x ++ y) ≡ begun (begun (line ++ (b ∷ [])) x) y
-        → (if t then begun [] (x ++ y) else begun (line ++ (b ∷ [])) (x ++ y)) ≡ begun (if t then begun [] x else begun (line ++ (b ∷ [])) x) y
+        → (if t then begun [] (x ++ y) otherwise begun (line ++ (b ∷ [])) (x ++ y)) ≡ begun (if t then begun [] x otherwise begun (line ++ (b ∷ [])) x) y
     by true p q = p
     by false p q = q
 

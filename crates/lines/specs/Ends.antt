@@ -1,11 +1,11 @@
 -- Where a line ends.
 use Rattle.std.specs.Prelude.{◌≡◌, true, List, [], ◌++◌, ℕ, ◌-◌, ◌≤◌, ◌<◌, eqb, length, get_or, take}
-use Rattle.whole.specs.Choice.{if◌then◌else◌}
+use Rattle.whole.specs.Choice.{if◌then◌otherwise◌}
 use Rattle.lines.specs.Lines.{last_byte, ends_line, ended, begun}
 
 -- What an inner function answers: the byte before the one at i, which is the given last one before the first.
 abbrev pub byte_before : ℕ → List ℕ → ℕ → ℕ
-byte_before last s i = if eqb i 0 then last else get_or s (i - 1) 0
+byte_before last s i = if eqb i 0 then last otherwise get_or s (i - 1) 0
 
 -- The first byte of s that ends a line has this offset, or s has none and it is its length: no line ends before it, so that all bytes before it belong to the
 -- line. `line` is the partial line before s.

@@ -1,6 +1,6 @@
 -- What is held of a partial line.
 use Rattle.std.specs.Prelude.{◌≡◌, List, [], ◌∷◌, ◌++◌, ℕ, ◌+◌, ◌-◌, leb, length, take, drop}
-use Rattle.whole.specs.Choice.{if◌then◌else◌}
+use Rattle.whole.specs.Choice.{if◌then◌otherwise◌}
 use Rattle.text.specs.Columns.{longest_line}
 use Rattle.lines.specs.Lines.{last_byte}
 
@@ -11,7 +11,7 @@ most_held = longest_line + 2
 -- What is held of a partial line: all of it, or of one that has more bytes than are held, as many less one, and its last byte, which tells whether a LF ends
 -- the line.
 abbrev pub capped : List ℕ → List ℕ
-capped line = if leb (length line) most_held then line else take (most_held - 1) line ++ (last_byte line ∷ [])
+capped line = if leb (length line) most_held then line otherwise take (most_held - 1) line ++ (last_byte line ∷ [])
 
 -- What adding s to the partial line in the first `count` bytes of a buffer promises of every byte: first stands what is held of the line then, so many bytes,
 -- and every byte past them is as it was.

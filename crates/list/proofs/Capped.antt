@@ -7,7 +7,7 @@ use Prim.Native.Nat.{ℕ, ◌-◌, ◌≤◌, ◌<◌}
 use native.Mathlib.Omega.{arith}
 use lib.ListN.{length}
 use lib.Seq.{length-take-le}
-use Rattle.whole.specs.Choice.{if◌then◌else◌}
+use Rattle.whole.specs.Choice.{if◌then◌otherwise◌}
 use Rattle.text.specs.Columns.{longest_line}
 use Rattle.text.specs.declared.columns.Fault.{Fault}
 use Rattle.text.proofs.Faults.{long-fault}
@@ -68,8 +68,8 @@ alike_all a [] g later ns text d = d
 alike_all {p} {q} a (b ∷ s) g later ns text d = by (ends_line p b) (ends_line q b) (alike-ends a b) (alike_all (alike-byte a b) s g later ns text) d
   where
     by : (t u : Bool) → t ≡ u → (DueToAll g (ended (p ++ (b ∷ [])) s) ns text later → DueToAll g (ended (q ++ (b ∷ [])) s) ns text later)
-        → DueToAll g (if t then all_but_last p ∷ ended [] s else ended (p ++ (b ∷ [])) s) ns text later
-        → DueToAll g (if u then all_but_last q ∷ ended [] s else ended (q ++ (b ∷ [])) s) ns text later
+        → DueToAll g (if t then all_but_last p ∷ ended [] s otherwise ended (p ++ (b ∷ [])) s) ns text later
+        → DueToAll g (if u then all_but_last q ∷ ended [] s otherwise ended (q ++ (b ∷ [])) s) ns text later
     by true true e k d = front_all a g later (ended [] s) ns text d
     by true false e k d = absurd (true≢false e)
     by false true e k d = absurd (true≢false (sym e))

@@ -10,7 +10,7 @@ use lib.ListN.{length, get_or, take, drop, length-append, length-drop, take-appe
 use lib.Seq.{length-take-le, take_all, take-add, get_or-take, get_or-drop, drop-drop, take-append_seam, drop-append_seam}
 use borrow.Author.Tests.{leb-true, leb-false, lt-ltb, le-ltb}
 use borrow.Rule.Slice.PartMut.{put_mid}
-use Rattle.whole.specs.Choice.{if◌then◌else◌}
+use Rattle.whole.specs.Choice.{if◌then◌otherwise◌}
 use Rattle.quantity.specs.Refusals.{number_of}
 use Rattle.quantity.specs.declared.refusal.Refusal.TheVariants.{BufferShort}
 use Rattle.line.specs.declared.lent.LineAnswer.{LineAnswer}
@@ -243,10 +243,10 @@ fed_all {chunk = chunk} {p = p} a h x held =
 
 -- ---- what is held
 -- whatever the count says, no more than all bytes
-pub held_is : (held : List ℕ) (count n : ℕ) → length held ≡ most_held → n ≡ (if leb count most_held then count else most_held) → (n ≤ most_held) × (take count held ≡ take n held)
+pub held_is : (held : List ℕ) (count n : ℕ) → length held ≡ most_held → n ≡ (if leb count most_held then count otherwise most_held) → (n ≤ most_held) × (take count held ≡ take n held)
 held_is held count n long e = by (leb count most_held) refl e
   where
-    by : (b : Bool) → leb count most_held ≡ b → n ≡ (if b then count else most_held) → (n ≤ most_held) × (take count held ≡ take n held)
+    by : (b : Bool) → leb count most_held ≡ b → n ≡ (if b then count otherwise most_held) → (n ≤ most_held) × (take count held ≡ take n held)
     by true t e = (omega (arith, leb-true count most_held t), ap (λ (k : ℕ). take k held) (sym e))
     by false t e =
         (omega arith, take_all count held (omega (arith, leb-false count most_held t)) ∙ sym (take_all n held (omega arith)))
@@ -351,9 +351,9 @@ module _ (st : State) (chunk out : List ℕ) (i : ℕ) (held : List ℕ) (count 
 pub last-held : (held : List ℕ) (n : ℕ) → 1 ≤ n → n ≤ length held → last_byte (take n held) ≡ get_or held (n - 1) 0
 last-held held n h k = rw (length-take-le n held k) (get_or-take n held (n - 1) 0 (omega arith))
 
-pub none-held : (count n : ℕ) → n ≡ (if leb count most_held then count else most_held) → n ≡ 0 → count ≡ 0
+pub none-held : (count n : ℕ) → n ≡ (if leb count most_held then count otherwise most_held) → n ≡ 0 → count ≡ 0
 none-held count n = by (leb count most_held)
   where
-    by : (b : Bool) → n ≡ (if b then count else most_held) → n ≡ 0 → count ≡ 0
+    by : (b : Bool) → n ≡ (if b then count otherwise most_held) → n ≡ 0 → count ≡ 0
     by true e z = omega arith
     by false e z = absurd (omega arith)

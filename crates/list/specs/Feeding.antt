@@ -1,7 +1,7 @@
 -- A list that comes in chunks.
 use Rattle.std.specs.Prelude.{◌≡◌, true, List, [], ◌∷◌, ◌++◌, ℕ, ◌+◌, ◌≤◌, ◌<◌, ltb, length, get_or, take, drop}
 use Rattle.std.proofs.Math.Option.{Option, none, some}
-use Rattle.whole.specs.Choice.{if◌then◌else◌}
+use Rattle.whole.specs.Choice.{if◌then◌otherwise◌}
 use Rattle.quantity.specs.Refusals.{number_of}
 use Rattle.quantity.specs.declared.refusal.Refusal.TheVariants.{WrongHeader, BufferShort}
 use Rattle.line.specs.declared.lent.LineAnswer.{LineAnswer}
@@ -71,7 +71,7 @@ pub record Full (st : State) (b wrote bytes : ℕ) : Type 0 where
 
 -- The code of a feeding: 11 where bytes of the chunk are left, else 0.
 abbrev pub code_of : ℕ → ℕ → ℕ
-code_of used bytes = if ltb used bytes then number_of BufferShort else 0
+code_of used bytes = if ltb used bytes then number_of BufferShort otherwise 0
 
 -- What feeding a chunk promises, `out` being the lent buffer before and `out'` after. So many bytes of the chunk are used. What is due to the lines that end
 -- within them is written at the start of the buffer, and its other bytes stay; the tally is that of those lines. The new state has the stage after them and

@@ -1,7 +1,7 @@
 -- The kinds of lists, which of them a desk takes, and by which header each is known.
 use Rattle.std.specs.Prelude.{Bool, true, false, ◌&&◌, List, [], ◌∷◌, ◌++◌, ℕ, eqb, get_or}
 use Rattle.std.proofs.Math.Option.{Option, none, some}
-use Rattle.whole.specs.Choice.{if◌then◌else◌}
+use Rattle.whole.specs.Choice.{if◌then◌otherwise◌}
 use Rattle.line.specs.Kinds as line
 use Rattle.line.specs.Kinds.{input_header, output_header, wrong_header_line}
 use Rattle.line.specs.Readings.{readings, reading_room}
@@ -42,7 +42,7 @@ same (a ∷ s) (b ∷ t) = eqb a b && same s t
 -- The kind of list whose header a line is, if any.
 abbrev pub kind_headed : List Kind → List ℕ → Option Kind
 kind_headed [] line = none
-kind_headed (k ∷ ks) line = if same line (input_header (kind_of k)) then some k else kind_headed ks line
+kind_headed (k ∷ ks) line = if same line (input_header (kind_of k)) then some k otherwise kind_headed ks line
 
 unfoldable pub headed : Desk → List ℕ → Option Kind
 headed desk line = kind_headed (taken desk) line

@@ -1,6 +1,6 @@
 -- How many lines ended, and how they were answered.
 use Rattle.std.specs.Prelude.{Bool, not, ◌||◌, List, [], ◌∷◌, ℕ, ◌+◌, ◌^◌, ◌≤◌, ◌<◌, eqb, length}
-use Rattle.whole.specs.Choice.{if◌then◌else◌}
+use Rattle.whole.specs.Choice.{if◌then◌otherwise◌}
 use Rattle.quantity.specs.Refusals.{number_of}
 use Rattle.quantity.specs.declared.refusal.Refusal.TheVariants.{WrongHeader}
 use Rattle.line.specs.Kinds.{is_fault}
@@ -14,7 +14,7 @@ abbrev pub is_faulty : ℕ → Bool
 is_faulty number = is_fault number || eqb number (number_of WrongHeader)
 
 abbrev pub one_if : Bool → ℕ
-one_if such = if such then 1 else 0
+one_if such = if such then 1 otherwise 0
 
 -- How many of these numbers are such.
 abbrev pub how_many : (ℕ → Bool) → List ℕ → ℕ

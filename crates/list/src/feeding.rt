@@ -1,6 +1,6 @@
 // Feeding a list chunk by chunk. A line that lies whole in a chunk is read where it lies; only a line that the chunk's end cuts is carried over.
 ghost use Rattle.std.specs.Prelude.{◌≡◌, [], ◌+◌, ◌^◌, ◌≤◌, ◌<◌, leb, length, take};
-ghost use Rattle.whole.specs.Choice.{if◌then◌else◌};
+ghost use Rattle.whole.specs.Choice.{if◌then◌otherwise◌};
 ghost use Rattle.lines.specs.Held.{most_held};
 ghost use Rattle.list.specs.Feeding.{line_of, FedAs, EndedWith, EndedAs};
 ghost use Rattle.list.specs.Replies.{Standing, HeldAs, FedOn};
@@ -84,7 +84,7 @@ fn feed_on(held: [u8; MOST_HELD], first: Place, chunk: &[u8], out: &mut [u8]) ->
 
 // How many bytes of a partial line are held, whatever the count says.
 pub fn held_count(count: usize) -> usize
-    ensures { result ≡ (if leb count most_held then count else most_held) }
+    ensures { result ≡ (if leb count most_held then count otherwise most_held) }
 {
     if count <= MOST_HELD {
         return count;

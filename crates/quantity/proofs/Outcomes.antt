@@ -7,7 +7,7 @@ use Prim.Native.Nat.{ℕ, ◌<◌, ◌≤◌}
 use native.Mathlib.Omega.{arith}
 use borrow.Author.Tests.{eqb-true, eqb-false, ne_eqb, ltb-true, leb-true}
 use lib.Dec.{eqb, ltb, leb}
-use Rattle.whole.specs.Choice.{if◌then◌else◌}
+use Rattle.whole.specs.Choice.{if◌then◌otherwise◌}
 use Rattle.whole.proofs.Choice.{and_true}
 use Rattle.quantity.specs.declared.refusal.Refusal.{Refusal}
 use Rattle.quantity.specs.Refusals.{number_of}
@@ -37,7 +37,7 @@ module _ {A : Type 0} (rule : Rule A) where
   pub answer-follows : (o : Outcome A) → o.code ≡ 0 → Follows rule o → (number ≡ 0) × rule.Answer o.answer
   answer-follows o z = by (eqb number 0) refl
     where
-      by : (t : Bool) → eqb number 0 ≡ t → (if t then (o.code ≡ 0) × rule.Answer o.answer else o ≡ refused rule.zeros number) → (number ≡ 0) × rule.Answer o.answer
+      by : (t : Bool) → eqb number 0 ≡ t → (if t then (o.code ≡ 0) × rule.Answer o.answer otherwise o ≡ refused rule.zeros number) → (number ≡ 0) × rule.Answer o.answer
       by true p h = (eqb-true number 0 p, h.1)
       by false p h = absurd (eqb-false number 0 p (sym (ap (λ (o : Outcome A). o.code) h) ∙ z))
 
@@ -45,7 +45,7 @@ module _ {A : Type 0} (rule : Rule A) where
   pub refusal-follows : (o : Outcome A) (n : ℕ) → eqb n 0 ≡ false → o.code ≡ n → Follows rule o → number ≡ n
   refusal-follows o n z e = by (eqb number 0)
     where
-      by : (t : Bool) → (if t then (o.code ≡ 0) × rule.Answer o.answer else o ≡ refused rule.zeros number) → number ≡ n
+      by : (t : Bool) → (if t then (o.code ≡ 0) × rule.Answer o.answer otherwise o ≡ refused rule.zeros number) → number ≡ n
       by true h = absurd (eqb-false n 0 z (sym e ∙ h.0))
       by false h = sym (ap (λ (o : Outcome A). o.code) h) ∙ e
 
@@ -53,7 +53,7 @@ module _ {A : Type 0} (rule : Rule A) where
   pub code-is-given : (o : Outcome A) → Follows rule o → o.code ≡ number
   code-is-given o = by (eqb number 0) refl
     where
-      by : (t : Bool) → eqb number 0 ≡ t → (if t then (o.code ≡ 0) × rule.Answer o.answer else o ≡ refused rule.zeros number) → o.code ≡ number
+      by : (t : Bool) → eqb number 0 ≡ t → (if t then (o.code ≡ 0) × rule.Answer o.answer otherwise o ≡ refused rule.zeros number) → o.code ≡ number
       by true p h = h.0 ∙ sym (eqb-true number 0 p)
       by false p h = ap (λ (o : Outcome A). o.code) h
 
@@ -61,7 +61,7 @@ module _ {A : Type 0} (rule : Rule A) where
   pub one-outcome : ((a b : A) → rule.Answer a → rule.Answer b → a ≡ b) → (o o' : Outcome A) → Follows rule o → Follows rule o' → o ≡ o'
   one-outcome one o o' = by (eqb number 0)
     where
-      by : (t : Bool) → (if t then (o.code ≡ 0) × rule.Answer o.answer else o ≡ refused rule.zeros number) → (if t then (o'.code ≡ 0) × rule.Answer o'.answer else o' ≡ refused rule.zeros number) → o ≡ o'
+      by : (t : Bool) → (if t then (o.code ≡ 0) × rule.Answer o.answer otherwise o ≡ refused rule.zeros number) → (if t then (o'.code ≡ 0) × rule.Answer o'.answer otherwise o' ≡ refused rule.zeros number) → o ≡ o'
       by true h i = ap₂ {C = Outcome A} (λ (c : ℕ) (a : A). record { code = c; answer = a }) (h.0 ∙ sym i.0) (one o.answer o'.answer h.1 i.1)
       by false h i = h ∙ sym i
 

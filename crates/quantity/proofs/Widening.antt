@@ -7,7 +7,7 @@ use Prim.Native.Nat.{ℕ, ◌≤◌}
 use native.Mathlib.Omega.{arith}
 use borrow.Author.Tests.{eqb-true, leb-true, le-leb, not-false}
 use lib.Dec.{eqb, leb, ltb}
-use Rattle.whole.specs.Choice.{if◌then◌else◌}
+use Rattle.whole.specs.Choice.{if◌then◌otherwise◌}
 use Rattle.whole.proofs.Choice.{and_true}
 use Rattle.quantity.specs.Quantities.{least_divisor, is_reading_up_to, is_divisor_up_to, ratio_of, largest_ratio}
 use Rattle.quantity.specs.Outcomes.{Outcome, refused, Test, ◌gives◌, number_given, Rule, Follows, if_named}
@@ -30,7 +30,7 @@ not-outside largest larger h r r0 e =
 
 -- ---- a test that gives 1, among others that stay
 module _ (later : List Test) (out out' : Bool) (fewer : out ≡ false → out' ≡ false) where
-  after-it : (t : Bool) → out ≡ t → eqb (if t then 1 else number_given later) 1 ≡ false → (if t then 1 else number_given later) ≡ (if out' then 1 else number_given later)
+  after-it : (t : Bool) → out ≡ t → eqb (if t then 1 otherwise number_given later) 1 ≡ false → (if t then 1 otherwise number_given later) ≡ (if out' then 1 otherwise number_given later)
   after-it true e z = absurd (true≢false z)
   after-it false e z = rw (fewer e) refl
 

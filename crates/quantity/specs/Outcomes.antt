@@ -1,7 +1,7 @@
 -- The shape of every outcome: the tests of a call in their order, each with its number; else the answer.
 use Rattle.std.specs.Prelude.{◌≡◌, Bool, true, List, [], ◌∷◌, ℕ, eqb}
 use Rattle.std.proofs.Math.Option.{Option, none, some}
-use Rattle.whole.specs.Choice.{if◌then◌else◌}
+use Rattle.whole.specs.Choice.{if◌then◌otherwise◌}
 
 -- An outcome as the scope document has it: the number given, 0 where there is an answer, and what is answered, zeros where there is none.
 pub record Outcome (A : Type 0) : Type 0 where
@@ -22,7 +22,7 @@ pub data Test : Type 0 where
 -- The number given: that of the first test that holds, 0 where none does.
 abbrev pub number_given : List Test → ℕ
 number_given [] = 0
-number_given ((holds gives number) ∷ tests) = if holds then number else number_given tests
+number_given ((holds gives number) ∷ tests) = if holds then number otherwise number_given tests
 
 -- A rule: its tests in their order, what is an answer where none of them holds, and what stands in the answer's place where one does.
 pub record Rule (A : Type 0) : Type 1 where
@@ -35,7 +35,7 @@ abbrev pub Follows : {A : Type 0} → Rule A → Outcome A → Type 0
 Follows rule o =
     let number = number_given rule.tests in
     if eqb number 0 then (o.code ≡ 0) × rule.Answer o.answer
-    else o ≡ refused rule.zeros number
+    otherwise o ≡ refused rule.zeros number
 
 -- The rule of what a name names. 3: it names nothing.
 abbrev pub if_named : {A B : Type 0} → A → Option B → (B → Rule A) → Rule A

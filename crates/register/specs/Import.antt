@@ -1,7 +1,7 @@
 -- An import: a list of entries comes into the table.
 use Rattle.std.specs.Prelude.{◌≡◌, Bool, ◌||◌, List, [], ◌∷◌, ℕ, eqb, ltb}
 use Rattle.whole.specs.Any.{any}
-use Rattle.whole.specs.Choice.{if◌then◌else◌}
+use Rattle.whole.specs.Choice.{if◌then◌otherwise◌}
 use Rattle.entry.specs.declared.entry.Entry.{Entry}
 use Rattle.examination.specs.declared.testing.Noted.{Noted}
 use Rattle.examination.specs.declared.answering.Change.{Change}
@@ -61,7 +61,7 @@ placed_all table (e ∷ es) = placed_all (placed table e) es
 
 -- The table after an import: as it was where the import is refused.
 unfoldable pub imported : List Entry → List Entry → List Entry
-imported table list = if eqb (import_refusal table list) 0 then placed_all table list else table
+imported table list = if eqb (import_refusal table list) 0 then placed_all table list otherwise table
 
 -- The rule of an import, whose answer is the table that it leaves: as it was where the import is refused.
 abbrev pub import_rule : List Entry → List Entry → Rule (List Entry)

@@ -1,6 +1,6 @@
 -- A withdrawal: the certificates of a thermometer are withdrawn up to a serial.
 use Rattle.std.specs.Prelude.{◌≡◌, List, ℕ, eqb}
-use Rattle.whole.specs.Choice.{if◌then◌else◌}
+use Rattle.whole.specs.Choice.{if◌then◌otherwise◌}
 use Rattle.entry.specs.declared.entry.Entry.{Entry}
 use Rattle.entry.specs.declared.entry.Serial.{Serial}
 use Rattle.examination.specs.declared.answering.Change.{Change}
@@ -15,7 +15,7 @@ withdrawal_refusal table n = number_given (withdrawal_tests (bad_table table) (e
 
 -- The table after a withdrawal: as it was where it is refused.
 unfoldable pub withdrawn : List Entry → ℕ → Serial → List Entry
-withdrawn table n serial = if eqb (withdrawal_refusal table n) 0 then put table n (raised (entry_of table n) serial) else table
+withdrawn table n serial = if eqb (withdrawal_refusal table n) 0 then put table n (raised (entry_of table n) serial) otherwise table
 
 -- The rule of a withdrawal, whose answer is the table that it leaves: as it was where the withdrawal is refused.
 abbrev pub withdrawal_rule : List Entry → ℕ → Serial → Rule (List Entry)

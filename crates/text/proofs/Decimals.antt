@@ -10,7 +10,7 @@ use Prim.Native.Char.{code}
 use lib.Dec.{ltb, lit<}
 use lib.ListN.{length, take, drop, set, length-append, length-set, take-append-drop}
 use borrow.Author.Tests.{lt-ltb, le-ltb, ltb-false}
-use Rattle.whole.specs.Choice.{if◌then◌else◌}
+use Rattle.whole.specs.Choice.{if◌then◌otherwise◌}
 use Rattle.text.specs.Decimal.{digits_in, decimal}
 use Rattle.text.specs.Writing.{over}
 use Rattle.text.proofs.Overs.{over-before}
@@ -22,7 +22,7 @@ digits_same (suc most) zero n h k = absurd (omega arith)
 digits_same (suc most) (suc most') n h k = by (ltb n 10) refl (digits_same most most' (n / 10))
   where
     by : (t : Bool) → ltb n 10 ≡ t → (n / 10 < most → n / 10 < most' → digits_in most (n / 10) ≡ digits_in most' (n / 10))
-        → (if t then (code "0" + n) ∷ [] else digits_in most (n / 10) ++ ((code "0" + n % 10) ∷ [])) ≡ (if t then (code "0" + n) ∷ [] else digits_in most' (n / 10) ++ ((code "0" + n % 10) ∷ []))
+        → (if t then (code "0" + n) ∷ [] otherwise digits_in most (n / 10) ++ ((code "0" + n % 10) ∷ [])) ≡ (if t then (code "0" + n) ∷ [] otherwise digits_in most' (n / 10) ++ ((code "0" + n % 10) ∷ []))
     by true e again = refl
     by false e again = ap (λ (s : List ℕ). s ++ ((code "0" + n % 10) ∷ [])) (let m = ltb-false n 10 e in again (omega arith) (omega arith))
 

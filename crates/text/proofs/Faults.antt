@@ -10,7 +10,7 @@ use lib.Dec.{ltb, eqb}
 use lib.ListN.{length, take, drop, get_or, length-drop, drop_of_length-le}
 use lib.Seq.{drop-drop, drop-cons, get_or-take, length-take-le}
 use borrow.Author.Tests.{le-leb, lt-leb, lt-ltb, le-ltb, ltb-false, eq-eqb, ne_eqb, eqb-true}
-use Rattle.whole.specs.Choice.{if◌then◌else◌}
+use Rattle.whole.specs.Choice.{if◌then◌otherwise◌}
 use Rattle.whole.specs.Any.{every}
 use Rattle.whole.proofs.Choice.{and_true}
 use Rattle.text.specs.declared.columns.Holds.{Holds}
@@ -27,7 +27,7 @@ later-long : (s : List ℕ) → length (later s) ≡ commas_in s
 later-long [] = refl
 later-long (b ∷ s) = by (eqb b (code ",")) (later-long s)
   where
-    by : (t : Bool) → length (later s) ≡ commas_in s → length (if t then field s ∷ later s else later s) ≡ (if t then suc (commas_in s) else commas_in s)
+    by : (t : Bool) → length (later s) ≡ commas_in s → length (if t then field s ∷ later s otherwise later s) ≡ (if t then suc (commas_in s) otherwise commas_in s)
     by true e = ap suc e
     by false e = e
 
@@ -36,7 +36,7 @@ pub commas_few : (s : List ℕ) → commas_in s ≤ length s
 commas_few [] = omega arith
 commas_few (b ∷ s) = by (eqb b (code ",")) (commas_few s)
   where
-    by : (t : Bool) → commas_in s ≤ length s → (if t then suc (commas_in s) else commas_in s) ≤ suc (length s)
+    by : (t : Bool) → commas_in s ≤ length s → (if t then suc (commas_in s) otherwise commas_in s) ≤ suc (length s)
     by true h = omega arith
     by false h = omega arith
 
@@ -52,20 +52,20 @@ fields-long line = omega (arith, later-long line)
 
 -- the fields from an offset on, as many as the columns that are left: the first that breaks its rule, if there is one before the end
 found : (line : List ℕ) (n : ℕ) (columns : List Holds) (from : ℕ) → from ≤ length line → length (fields (drop from line)) ≡ length columns
-    → first_broken n columns (fields (drop from line)) ≡ (let field = first_lost line n columns from in if ltb field (n + length columns) then some (Broken field) else none)
+    → first_broken n columns (fields (drop from line)) ≡ (let field = first_lost line n columns from in if ltb field (n + length columns) then some (Broken field) otherwise none)
 found line n [] from h l = absurd (omega arith)
 found line n (what ∷ others) from h l = by (rule_of what (field (drop from line))) refl (split (drop from line)) (found line (n + 1) others)
   where
     last : (others : List Holds) → length others ≡ 0 → (end : ℕ)
-        → first_broken (n + 1) others [] ≡ (let field = first_lost line (n + 1) others end in if ltb field (n + suc (length others)) then some (Broken field) else none)
+        → first_broken (n + 1) others [] ≡ (let field = first_lost line (n + 1) others end in if ltb field (n + suc (length others)) then some (Broken field) otherwise none)
     last [] e end = rw (le-ltb (n + 1) (n + 1) (omega arith))
     last (o ∷ others) e end = absurd (omega arith)
 
     by : (t : Bool) → rule_of what (field (drop from line)) ≡ t → Split (drop from line)
         → ((next : ℕ) → next ≤ length line → length (fields (drop next line)) ≡ length others
-        → first_broken (n + 1) others (fields (drop next line)) ≡ (let field = first_lost line (n + 1) others next in if ltb field (n + 1 + length others) then some (Broken field) else none))
-        → (if t then first_broken (n + 1) others (later (drop from line)) else some (Broken n))
-        ≡ (let field = first_lost line n (what ∷ others) from in if ltb field (n + suc (length others)) then some (Broken field) else none)
+        → first_broken (n + 1) others (fields (drop next line)) ≡ (let field = first_lost line (n + 1) others next in if ltb field (n + 1 + length others) then some (Broken field) otherwise none))
+        → (if t then first_broken (n + 1) others (later (drop from line)) otherwise some (Broken n))
+        ≡ (let field = first_lost line n (what ∷ others) from in if ltb field (n + suc (length others)) then some (Broken field) otherwise none)
     by false e p again = rw (breaks line (rule_of what) from h e, lt-leb (length line + 2) (length line + 1) (omega arith), lt-ltb n (n + suc (length others)) (omega arith))
     by true e (only alone all) again =
         let end : next_at (rule_of what) line from ≡ length line + 1 = keeps line (rule_of what) from h e ∙ rw (all, length-drop from line) (omega arith) in
@@ -117,7 +117,7 @@ module _ (columns : List Holds) (line : List ℕ) where
     is-miscounted e = rw (short, fields-long line, e)
 
     pub is_found : not (eqb (commas_in line + 1) (length columns)) ≡ false
-        → fault_by columns line ≡ (let field = first_lost line 1 columns 0 in if ltb field (1 + length columns) then some (Broken field) else none)
+        → fault_by columns line ≡ (let field = first_lost line 1 columns 0 in if ltb field (1 + length columns) then some (Broken field) otherwise none)
     unfolding fault_by
     is_found e = rw (short, fields-long line, e) (found line 1 columns 0 (omega arith) (fields-long line ∙ counted (eqb (commas_in line + 1) (length columns)) refl e))
       where
@@ -171,7 +171,7 @@ named_at n m [] fs e = absurd (none-ne-some (Broken m) e)
 named_at n m (c ∷ cs) [] e = absurd (none-ne-some (Broken m) e)
 named_at n m (c ∷ cs) (f ∷ fs) e = by (rule c f) refl e (named_at (n + 1) m cs fs)
   where
-    by : (t : Bool) → rule c f ≡ t → (if t then first_broken (n + 1) (map held cs) fs else some (Broken n)) ≡ some (Broken m)
+    by : (t : Bool) → rule c f ≡ t → (if t then first_broken (n + 1) (map held cs) fs otherwise some (Broken n)) ≡ some (Broken m)
         → (first_broken (n + 1) (map held cs) fs ≡ some (Broken m) → NamedAt (n + 1) m cs fs) → NamedAt n m (c ∷ cs) (f ∷ fs)
     by false r e again =
         let is : n ≡ m = ap number_in (some-injective (Broken n) (Broken m) e) in
@@ -205,7 +205,7 @@ first-named cs line m e = by (ltb longest_line (length line)) (eqb (length (fiel
         }
 
     by : (t u : Bool) → ltb longest_line (length line) ≡ t → eqb (length (fields line)) (length (map held cs)) ≡ u
-        → (if t then some TooLong else if not u then some WrongCount else first_broken 1 (map held cs) (fields line)) ≡ some (Broken m) → FirstToBreak cs line m
+        → (if t then some TooLong otherwise if not u then some WrongCount otherwise first_broken 1 (map held cs) (fields line)) ≡ some (Broken m) → FirstToBreak cs line m
     by true u l c e = absurd (true≢false (sym (ap names_field (some-injective TooLong (Broken m) e))))
     by false false l c e = absurd (true≢false (sym (ap names_field (some-injective WrongCount (Broken m) e))))
     by false true l c e = is (ltb-false longest_line (length line) l) (eqb-true (length (fields line)) (length (map held cs)) c ∙ map-long cs) (named_at 1 m cs (fields line) e)

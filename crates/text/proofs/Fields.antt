@@ -7,7 +7,7 @@ use Prim.Native.Nat.{ℕ, suc, ◌≤◌}
 use Prim.Native.Char.{code}
 use lib.Dec.{leb, eqb}
 use borrow.Author.Tests.{le-leb, lt-leb, leb-true}
-use Rattle.whole.specs.Choice.{if◌then◌else◌}
+use Rattle.whole.specs.Choice.{if◌then◌otherwise◌}
 use Rattle.whole.proofs.Choice.{and_true}
 use lib.ListN.{length, take, drop, get_or}
 use Rattle.whole.specs.Text.{name_of}
@@ -31,7 +31,7 @@ letter_other [] h k = absurd (omega arith)
 letter_other (b ∷ s) h k = by (eqb b (code ","))
   where
     by : (t : Bool) → scanned_if false 0 0 (b ∷ s)
-        ≡ (let f = if t then [] else b ∷ field s in scanned_if (is_letter f) (first_byte f) (length f) (b ∷ s))
+        ≡ (let f = if t then [] otherwise b ∷ field s in scanned_if (is_letter f) (first_byte f) (length f) (b ∷ s))
     by true = refl
     by false = rw (k, and_false (sized 1 1 (b ∷ field s)))
 
@@ -59,7 +59,7 @@ first_small (b ∷ f) e = letter_bounds b (and_true (letter b) (every letter f) 
 pub letter-small : (line : List ℕ) (from : ℕ) → (scanned_at is_letter first_byte line from).value ≤ 122
 letter-small line from = by (leb from (length line)) (is_letter (field (drop from line))) refl
   where
-    by : (t u : Bool) → is_letter (field (drop from line)) ≡ u → (if t then (if u then first_byte (field (drop from line)) else 0) else 0) ≤ 122
+    by : (t u : Bool) → is_letter (field (drop from line)) ≡ u → (if t then (if u then first_byte (field (drop from line)) otherwise 0) otherwise 0) ≤ 122
     by true true e = first_small (field (drop from line)) e
     by true false e = omega arith
     by false u e = omega arith

@@ -8,7 +8,7 @@ use native.Mathlib.Omega.{arith}
 use lib.Dec.{eqb}
 use lib.ListN.{length, drop, length-drop}
 use borrow.Author.Tests.{eq-eqb}
-use Rattle.whole.specs.Choice.{if◌then◌else◌}
+use Rattle.whole.specs.Choice.{if◌then◌otherwise◌}
 use Rattle.whole.proofs.Choice.{and_true}
 use Rattle.text.specs.declared.columns.Holds.{Holds}
 use Rattle.text.specs.declared.columns.Holds.TheVariants.{Id, Name, Letter, Natural, Signed}
@@ -27,7 +27,7 @@ signed_short : (most : ℕ) (s : List ℕ) → rule_of (Signed most) s ≡ true 
 signed_short most [] e = omega arith
 signed_short most (b ∷ s) e = by (eqb b (code "-")) e
   where
-    by : (t : Bool) → (if t then is_number most s && not (eqb (value_of s) 0) else is_number most (b ∷ s)) ≡ true → length (b ∷ s) ≤ most + 1
+    by : (t : Bool) → (if t then is_number most s && not (eqb (value_of s) 0) otherwise is_number most (b ∷ s)) ≡ true → length (b ∷ s) ≤ most + 1
     by true e = omega (arith, number_short most s (and_true (is_number most s) (not (eqb (value_of s) 0)) e).0)
     by false e = omega (arith, number_short most (b ∷ s) e)
 

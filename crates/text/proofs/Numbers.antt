@@ -9,7 +9,7 @@ use Prim.Native.Char.{code}
 use lib.Dec.{leb, eqb, lit<}
 use lib.ListN.{length, take, get_or}
 use borrow.Author.Tests.{le-leb, lt-leb, leb-true, ne_eqb}
-use Rattle.whole.specs.Choice.{if◌then◌else◌}
+use Rattle.whole.specs.Choice.{if◌then◌otherwise◌}
 use Rattle.whole.proofs.Choice.{and_true}
 use Rattle.text.specs.declared.field.Scanned.{Scanned}
 use Rattle.text.specs.Fields.{field, sized, every, digit}
@@ -118,7 +118,7 @@ module _ (most : ℕ) (few : most ≤ most_digits) (s : List ℕ) where
     pub number-few : n.next ≤ most + 1 → n ≡ scanned_in (is_number most) value_of s
     number-few h = is ∙ by (is_number most_digits (field s)) refl (ap (λ (x : Scanned). x.next) is)
       where
-        by : (t : Bool) → is_number most_digits (field s) ≡ t → n.next ≡ (if t then length (field s) + 1 else nowhere (length s))
+        by : (t : Bool) → is_number most_digits (field s) ≡ t → n.next ≡ (if t then length (field s) + 1 otherwise nowhere (length s))
             → scanned_if t (value_of (field s)) (length (field s)) s ≡ scanned_in (is_number most) value_of s
         by true e k = rw (wider e, le-leb (length (field s)) most (omega (arith, h, k)))
         by false e k = rw (narrower e)
@@ -126,7 +126,7 @@ module _ (most : ℕ) (few : most ≤ most_digits) (s : List ℕ) where
     pub number-more-digits : most + 1 < n.next → scanned_if false 0 0 s ≡ scanned_in (is_number most) value_of s
     number-more-digits h = by (is_number most_digits (field s)) refl (ap (λ (x : Scanned). x.next) is)
       where
-        by : (t : Bool) → is_number most_digits (field s) ≡ t → n.next ≡ (if t then length (field s) + 1 else nowhere (length s))
+        by : (t : Bool) → is_number most_digits (field s) ≡ t → n.next ≡ (if t then length (field s) + 1 otherwise nowhere (length s))
             → scanned_if false 0 0 s ≡ scanned_in (is_number most) value_of s
         by true e k = rw (wider e, lt-leb (length (field s)) most (omega (arith, h, k)))
         by false e k = rw (narrower e)

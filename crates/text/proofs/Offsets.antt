@@ -11,7 +11,7 @@ use lib.IntN.{pos, ◌-ℤ◌}
 use lib.ListN.{length, take, drop, get_or, length-drop}
 use lib.Seq.{take_all}
 use borrow.Author.Tests.{le-leb, lt-leb, leb-true, eq-eqb, ne_eqb}
-use Rattle.whole.specs.Choice.{if◌then◌else◌}
+use Rattle.whole.specs.Choice.{if◌then◌otherwise◌}
 use Rattle.whole.proofs.Choice.{and_true}
 use Rattle.text.specs.declared.field.Scanned.{Scanned}
 use Rattle.text.specs.declared.number.Signed.{Signed}
@@ -25,14 +25,14 @@ pub field-length : (s : List ℕ) → length (field s) ≤ length s
 field-length [] = omega arith
 field-length (b ∷ s) = by (eqb b (code ",")) (field-length s)
   where
-    by : (t : Bool) → length (field s) ≤ length s → length (if t then [] else b ∷ field s) ≤ suc (length s)
+    by : (t : Bool) → length (field s) ≤ length s → length (if t then [] otherwise b ∷ field s) ≤ suc (length s)
     by true h = omega arith
     by false h = omega arith
 
 pub next_most : (rule : List ℕ → Bool) (s : List ℕ) → next_of rule s ≤ length s + 2
 next_most rule s = by (rule (field s)) (field-length s)
   where
-    by : (t : Bool) → length (field s) ≤ length s → (if t then length (field s) + 1 else nowhere (length s)) ≤ length s + 2
+    by : (t : Bool) → length (field s) ≤ length s → (if t then length (field s) + 1 otherwise nowhere (length s)) ≤ length s + 2
     by true h = omega arith
     by false h = omega arith
 
@@ -57,7 +57,7 @@ value_most most f e few =
 pub number_most : (most : ℕ) (s : List ℕ) → most ≤ most_digits → (scanned_in (is_number most) value_of s).value < 10 ^ most_digits
 number_most most s few = by (is_number most (field s)) refl
   where
-    by : (t : Bool) → is_number most (field s) ≡ t → (if t then value_of (field s) else 0) < 10 ^ most_digits
+    by : (t : Bool) → is_number most (field s) ≡ t → (if t then value_of (field s) otherwise 0) < 10 ^ most_digits
     by true e = value_most most (field s) e few
     by false e = omega arith
 
@@ -71,7 +71,7 @@ module _ (most : ℕ) where
   minus-none : (s : List ℕ) → (scanned_in (is_number most) value_of s).value ≡ 0 → signed_if false (pos 0) 0 (code "-" ∷ s) ≡ signed_in most (code "-" ∷ s)
   minus-none s = by (is_number most (field s))
     where
-      by : (t : Bool) → (if t then value_of (field s) else 0) ≡ 0
+      by : (t : Bool) → (if t then value_of (field s) otherwise 0) ≡ 0
           → signed_if false (pos 0) 0 (code "-" ∷ s) ≡ signed_if (t && not (eqb (value_of (field s)) 0)) (pos 0 -ℤ pos (value_of (field s))) (suc (length (field s))) (code "-" ∷ s)
       by true e = rw (eq-eqb (value_of (field s)) 0 e)
       by false e = refl
@@ -80,7 +80,7 @@ module _ (most : ℕ) where
       → record { value = pos 0 -ℤ pos v; next = n + 1 } ≡ signed_in most (code "-" ∷ s)
   minus-some s v n = by (is_number most (field s))
     where
-      by : (t : Bool) → v ≡ (if t then value_of (field s) else 0) → n ≡ (if t then length (field s) + 1 else nowhere (length s)) → (v ≡ 0 → ⊥)
+      by : (t : Bool) → v ≡ (if t then value_of (field s) otherwise 0) → n ≡ (if t then length (field s) + 1 otherwise nowhere (length s)) → (v ≡ 0 → ⊥)
           → ◌≡◌ {A = Signed} (record { value = pos 0 -ℤ pos v; next = n + 1 })
           (signed_if (t && not (eqb (value_of (field s)) 0)) (pos 0 -ℤ pos (value_of (field s))) (suc (length (field s))) (code "-" ∷ s))
       by true e k h =
@@ -110,17 +110,17 @@ module _ (most : ℕ) where
   plain [] h k = absurd (omega arith)
   plain (b ∷ s) h k = by (eqb b (code ","))
     where
-      same_test : (t : Bool) → ◌≡◌ {A = Signed} (record { value = pos (if t then value_of (b ∷ field s) else 0); next = if t then suc (length (field s)) + 1 else nowhere (suc (length s)) })
+      same_test : (t : Bool) → ◌≡◌ {A = Signed} (record { value = pos (if t then value_of (b ∷ field s) otherwise 0); next = if t then suc (length (field s)) + 1 otherwise nowhere (suc (length s)) })
           (signed_if t (pos (value_of (b ∷ field s))) (suc (length (field s))) (b ∷ s))
       same_test true = refl
       same_test false = refl
 
       by : (t : Bool) → ◌≡◌ {A = Signed}
           (record {
-            value = pos (scanned_if (is_number most (if t then [] else b ∷ field s)) (value_of (if t then [] else b ∷ field s)) (length (if t then [] else b ∷ field s)) (b ∷ s)).value;
-            next = (scanned_if (is_number most (if t then [] else b ∷ field s)) (value_of (if t then [] else b ∷ field s)) (length (if t then [] else b ∷ field s)) (b ∷ s)).next;
+            value = pos (scanned_if (is_number most (if t then [] otherwise b ∷ field s)) (value_of (if t then [] otherwise b ∷ field s)) (length (if t then [] otherwise b ∷ field s)) (b ∷ s)).value;
+            next = (scanned_if (is_number most (if t then [] otherwise b ∷ field s)) (value_of (if t then [] otherwise b ∷ field s)) (length (if t then [] otherwise b ∷ field s)) (b ∷ s)).next;
           })
-          (signed_if (is_signed most (if t then [] else b ∷ field s)) (signed_of (if t then [] else b ∷ field s)) (length (if t then [] else b ∷ field s)) (b ∷ s))
+          (signed_if (is_signed most (if t then [] otherwise b ∷ field s)) (signed_of (if t then [] otherwise b ∷ field s)) (length (if t then [] otherwise b ∷ field s)) (b ∷ s))
       by true = refl
       by false = rw (ne_eqb b (code "-") k) (same_test (is_number most (b ∷ field s)))
 

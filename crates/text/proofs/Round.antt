@@ -10,7 +10,7 @@ use lib.Dec.{eqb}
 use lib.IntN.{pos, negsuc, ◌-ℤ◌}
 use lib.ListN.{length, get_or, get_or-append}
 use borrow.Author.Tests.{le-leb, eqb-true, eqb-false, ne_eqb, not-true}
-use Rattle.whole.specs.Choice.{if◌then◌else◌}
+use Rattle.whole.specs.Choice.{if◌then◌otherwise◌}
 use Rattle.whole.proofs.Choice.{and_true}
 use Rattle.whole.proofs.Parts.{ints, sub_parts}
 use Rattle.text.specs.Fields.{sized, every, digit}
@@ -139,8 +139,8 @@ pub signed_written_back : SignedWrittenBack
 signed_written_back most [] e = absurd (false≢true e)
 signed_written_back most (b ∷ s) e = by (eqb b (code "-")) refl e
   where
-    by : (t : Bool) → eqb b (code "-") ≡ t → (if t then is_number most s && not (eqb (value_of s) 0) else is_number most (b ∷ s)) ≡ true
-        → signed_decimal (if t then pos 0 -ℤ pos (value_of s) else pos (value_of (b ∷ s))) ≡ b ∷ s
+    by : (t : Bool) → eqb b (code "-") ≡ t → (if t then is_number most s && not (eqb (value_of s) 0) otherwise is_number most (b ∷ s)) ≡ true
+        → signed_decimal (if t then pos 0 -ℤ pos (value_of s) otherwise pos (value_of (b ∷ s))) ≡ b ∷ s
     by true k e =
         let p = and_true (is_number most s) (not (eqb (value_of s) 0)) e in
         written_minus (value_of s) (eqb-false (value_of s) 0 (not-true (eqb (value_of s) 0) p.1))

@@ -11,7 +11,7 @@ use lib.Dec.{leb, eqb}
 use lib.ListN.{length, drop, length-drop}
 use lib.Seq.{drop-drop}
 use borrow.Author.Tests.{le-leb, lt-leb, lt-ltb, le-ltb, leb-true, leb-false, eq-eqb, ne_eqb, eqb-true}
-use Rattle.whole.specs.Choice.{if◌then◌else◌}
+use Rattle.whole.specs.Choice.{if◌then◌otherwise◌}
 use Rattle.whole.specs.Text.{name_of}
 use Rattle.whole.proofs.Choice.{and_true}
 use Rattle.text.specs.declared.field.Scanned.{Scanned}
@@ -41,19 +41,19 @@ eqb_suc m n = by (eqb m n) refl
     by false e = ne_eqb (suc m) (suc n) (λ k. false≢true (sym e ∙ eq-eqb m n (omega arith)))
 
 -- whatever the number that the first of them has
-pub kept_none : (n : ℕ) (cs : List Column) (fs : List (List ℕ)) → keep cs fs ≡ (if not (eqb (length fs) (length (map held cs))) then false else is_none (first_broken n (map held cs) fs))
+pub kept_none : (n : ℕ) (cs : List Column) (fs : List (List ℕ)) → keep cs fs ≡ (if not (eqb (length fs) (length (map held cs))) then false otherwise is_none (first_broken n (map held cs) fs))
 kept_none n [] [] = refl
 kept_none n [] (f ∷ fs) = rw (ne_eqb (suc (length fs)) 0 (λ e. omega arith))
 kept_none n (c ∷ cs) [] = rw (ne_eqb 0 (suc (length (map held cs))) (λ e. omega arith))
 kept_none n (c ∷ cs) (f ∷ fs) = rw (eqb_suc (length fs) (length (map held cs))) (by (rule c f) (eqb (length fs) (length (map held cs))) (kept_none (n + 1) cs fs))
   where
-    by : (t u : Bool) → keep cs fs ≡ (if not u then false else is_none (first_broken (n + 1) (map held cs) fs))
-        → (t && keep cs fs) ≡ (if not u then false else is_none (if t then first_broken (n + 1) (map held cs) fs else some (Broken n)))
+    by : (t u : Bool) → keep cs fs ≡ (if not u then false otherwise is_none (first_broken (n + 1) (map held cs) fs))
+        → (t && keep cs fs) ≡ (if not u then false otherwise is_none (if t then first_broken (n + 1) (map held cs) fs otherwise some (Broken n)))
     by true u e = e
     by false true e = refl
     by false false e = refl
 
-is-none : (t : Bool) (this : Fault) (that : Option Fault) → is_none (if t then some this else that) ≡ (if t then false else is_none that)
+is-none : (t : Bool) (this : Fault) (that : Option Fault) → is_none (if t then some this otherwise that) ≡ (if t then false otherwise is_none that)
 is-none true this that = refl
 is-none false this that = refl
 

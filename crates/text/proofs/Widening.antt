@@ -8,7 +8,7 @@ use native.Mathlib.Omega.{arith}
 use lib.Dec.{leb, ltb, eqb}
 use lib.ListN.{length}
 use borrow.Author.Tests.{leb-true, le-leb}
-use Rattle.whole.specs.Choice.{if◌then◌else◌}
+use Rattle.whole.specs.Choice.{if◌then◌otherwise◌}
 use Rattle.whole.proofs.Choice.{and_true}
 use Rattle.text.specs.declared.columns.Holds.{Holds}
 use Rattle.text.specs.declared.columns.Holds.TheVariants.{Natural}
@@ -56,8 +56,8 @@ fields_stay n (c ∷ cs) (d ∷ ds) (f ∷ fs) (eased one others) kept = by (rul
   where
     by : (t : Bool) → rule_of (held c) f ≡ t
         → (((k : ℕ) → first_broken (n + 1) (map held cs) fs ≡ some (Broken k) → ⊥) → first_broken (n + 1) (map held ds) fs ≡ first_broken (n + 1) (map held cs) fs)
-        → ((k : ℕ) → (if t then first_broken (n + 1) (map held cs) fs else some (Broken n)) ≡ some (Broken k) → ⊥)
-        → (if rule_of (held d) f then first_broken (n + 1) (map held ds) fs else some (Broken n)) ≡ (if t then first_broken (n + 1) (map held cs) fs else some (Broken n))
+        → ((k : ℕ) → (if t then first_broken (n + 1) (map held cs) fs otherwise some (Broken n)) ≡ some (Broken k) → ⊥)
+        → (if rule_of (held d) f then first_broken (n + 1) (map held ds) fs otherwise some (Broken n)) ≡ (if t then first_broken (n + 1) (map held cs) fs otherwise some (Broken n))
     by true e again kept = rw (one.keeps f e) (again kept)
     by false e again kept = absurd (kept n refl)
 
@@ -66,9 +66,9 @@ unfolding fault_of fault_by
 fault-stays cs ds all line = by (ltb longest_line (length line)) (eqb (length (fields line)) (length (map held cs))) refl
   where
     by : (long counted : Bool) → eqb (length (fields line)) (length (map held cs)) ≡ counted
-        → ((k : ℕ) → (if long then some TooLong else if not counted then some WrongCount else first_broken 1 (map held cs) (fields line)) ≡ some (Broken k) → ⊥)
-        → (if long then some TooLong else if not (eqb (length (fields line)) (length (map held ds))) then some WrongCount else first_broken 1 (map held ds) (fields line))
-        ≡ (if long then some TooLong else if not counted then some WrongCount else first_broken 1 (map held cs) (fields line))
+        → ((k : ℕ) → (if long then some TooLong otherwise if not counted then some WrongCount otherwise first_broken 1 (map held cs) (fields line)) ≡ some (Broken k) → ⊥)
+        → (if long then some TooLong otherwise if not (eqb (length (fields line)) (length (map held ds))) then some WrongCount otherwise first_broken 1 (map held ds) (fields line))
+        ≡ (if long then some TooLong otherwise if not counted then some WrongCount otherwise first_broken 1 (map held cs) (fields line))
     by true counted e kept = refl
     by false false e kept = rw (sym (as_many cs ds all), e) refl
     by false true e kept = rw (sym (as_many cs ds all), e) (fields_stay 1 cs ds (fields line) all kept)

@@ -3,7 +3,7 @@ use Rattle.std.specs.Prelude.{List, [], ◌∷◌, map, Bool, true, false, ◌&&
 use Rattle.std.proofs.Math.Option.{Option, none, some}
 use Prim.Native.Char.{code}
 use Prim.Native.String.{String}
-use Rattle.whole.specs.Choice.{if◌then◌else◌}
+use Rattle.whole.specs.Choice.{if◌then◌otherwise◌}
 use Rattle.whole.specs.Text.{ascii, name_of}
 use Rattle.text.specs.declared.columns.Holds.{Holds}
 use Rattle.text.specs.declared.columns.Holds.TheVariants.{Id, Name, Letter, Natural, Signed}
@@ -77,14 +77,14 @@ longest_line = 200
 abbrev pub first_broken : ℕ → List Holds → List (List ℕ) → Option Fault
 first_broken n [] fs = none
 first_broken n (what ∷ others) [] = none
-first_broken n (what ∷ others) (f ∷ fs) = if rule_of what f then first_broken (n + 1) others fs else some (Broken n)
+first_broken n (what ∷ others) (f ∷ fs) = if rule_of what f then first_broken (n + 1) others fs otherwise some (Broken n)
 
 -- The length is tested first, then the count of fields, then each field.
 unfoldable pub fault_by : List Holds → List ℕ → Option Fault
 fault_by columns line =
     if ltb longest_line (length line) then some TooLong
-    else if not (eqb (length (fields line)) (length columns)) then some WrongCount
-    else first_broken 1 columns (fields line)
+    otherwise if not (eqb (length (fields line)) (length columns)) then some WrongCount
+    otherwise first_broken 1 columns (fields line)
 
 unfoldable pub fault_of : List Column → List ℕ → Option Fault
 fault_of columns line = fault_by (map held columns) line

@@ -1,17 +1,17 @@
 -- The fields of a line: RFC 4180 without its quotes.
 use Rattle.std.specs.Prelude.{List, [], ◌∷◌, Bool, true, ◌&&◌, ◌||◌, ℕ, leb, eqb, length}
 use Prim.Native.Char.{code}
-use Rattle.whole.specs.Choice.{if◌then◌else◌}
+use Rattle.whole.specs.Choice.{if◌then◌otherwise◌}
 
 -- What stands before the first comma, all of it where there is none.
 abbrev pub field : List ℕ → List ℕ
 field [] = []
-field (b ∷ s) = if eqb b (code ",") then [] else b ∷ field s
+field (b ∷ s) = if eqb b (code ",") then [] otherwise b ∷ field s
 
 -- For each comma, what stands after it and before the next.
 abbrev pub later : List ℕ → List (List ℕ)
 later [] = []
-later (b ∷ s) = if eqb b (code ",") then field s ∷ later s else later s
+later (b ∷ s) = if eqb b (code ",") then field s ∷ later s otherwise later s
 
 abbrev pub fields : List ℕ → List (List ℕ)
 fields line = field line ∷ later line

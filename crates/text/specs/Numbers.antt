@@ -1,7 +1,7 @@
 -- Numbers in fields: decimal digits without a leading zero, a minus where below 0.
 use Rattle.std.specs.Prelude.{List, [], ◌∷◌, Bool, false, ◌&&◌, not, ℕ, ◌+◌, ◌-◌, ◌*◌, eqb, ℤ, pos, ◌-ℤ◌}
 use Prim.Native.Char.{code}
-use Rattle.whole.specs.Choice.{if◌then◌else◌}
+use Rattle.whole.specs.Choice.{if◌then◌otherwise◌}
 use Rattle.text.specs.Fields.{sized, every, digit}
 
 -- So many digits always fit 64 bits, with a sign too. No list has a column of more.
@@ -29,8 +29,8 @@ value_of s = digits_after 0 s
 -- A number of either sign, of at most so many digits; a minus never stands before 0.
 abbrev pub is_signed : ℕ → List ℕ → Bool
 is_signed most [] = false
-is_signed most (b ∷ s) = if eqb b (code "-") then is_number most s && not (eqb (value_of s) 0) else is_number most (b ∷ s)
+is_signed most (b ∷ s) = if eqb b (code "-") then is_number most s && not (eqb (value_of s) 0) otherwise is_number most (b ∷ s)
 
 abbrev pub signed_of : List ℕ → ℤ
 signed_of [] = pos 0
-signed_of (b ∷ s) = if eqb b (code "-") then pos 0 -ℤ pos (value_of s) else pos (value_of (b ∷ s))
+signed_of (b ∷ s) = if eqb b (code "-") then pos 0 -ℤ pos (value_of s) otherwise pos (value_of (b ∷ s))

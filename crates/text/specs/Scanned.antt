@@ -4,7 +4,7 @@
 use Rattle.std.specs.Prelude.{List, [], ◌∷◌, Bool, true, ◌&&◌, ℕ, suc, ◌+◌, leb, ltb, eqb, ℤ, pos, length, drop}
 use Rattle.std.proofs.Math.Option.{Option, none, some}
 use Prim.Native.Char.{code}
-use Rattle.whole.specs.Choice.{if◌then◌else◌}
+use Rattle.whole.specs.Choice.{if◌then◌otherwise◌}
 use Rattle.text.specs.declared.field.Scanned.{Scanned}
 use Rattle.text.specs.declared.number.Signed.{Signed}
 use Rattle.text.specs.Fields.{field}
@@ -31,17 +31,17 @@ nowhere bytes = bytes + 2
 
 -- Where the field after one of i bytes starts, if that one keeps its rule.
 abbrev pub next_if : Bool → ℕ → List ℕ → ℕ
-next_if keeps i s = if keeps then i + 1 else nowhere (length s)
+next_if keeps i s = if keeps then i + 1 otherwise nowhere (length s)
 
 abbrev pub next_of : (List ℕ → Bool) → List ℕ → ℕ
 next_of rule s = next_if (rule (field s)) (length (field s)) s
 
 -- What such a field says: 0 if it breaks its rule.
 abbrev pub scanned_if : Bool → ℕ → ℕ → List ℕ → Scanned
-scanned_if keeps value i s = record { value = if keeps then value else 0; next = next_if keeps i s }
+scanned_if keeps value i s = record { value = if keeps then value otherwise 0; next = next_if keeps i s }
 
 abbrev pub signed_if : Bool → ℤ → ℕ → List ℕ → Signed
-signed_if keeps value i s = record { value = if keeps then value else pos 0; next = next_if keeps i s }
+signed_if keeps value i s = record { value = if keeps then value otherwise pos 0; next = next_if keeps i s }
 
 -- What the first field of s says by its rule, and where the next one starts.
 abbrev pub scanned_in : (List ℕ → Bool) → (List ℕ → ℕ) → List ℕ → Scanned
@@ -52,25 +52,25 @@ signed_in most s = signed_if (is_signed most (field s)) (signed_of (field s)) (l
 
 -- The same for the field that starts at an offset of the line.
 abbrev pub next_at : (List ℕ → Bool) → List ℕ → ℕ → ℕ
-next_at rule line from = if leb from (length line) then from + next_of rule (drop from line) else nowhere (length line)
+next_at rule line from = if leb from (length line) then from + next_of rule (drop from line) otherwise nowhere (length line)
 
 abbrev pub scanned_at : (List ℕ → Bool) → (List ℕ → ℕ) → List ℕ → ℕ → Scanned
-scanned_at rule value line from = record { value = if leb from (length line) then (scanned_in rule value (drop from line)).value else 0; next = next_at rule line from }
+scanned_at rule value line from = record { value = if leb from (length line) then (scanned_in rule value (drop from line)).value otherwise 0; next = next_at rule line from }
 
 abbrev pub signed_at : ℕ → List ℕ → ℕ → Signed
-signed_at most line from = record { value = if leb from (length line) then (signed_in most (drop from line)).value else pos 0; next = next_at (is_signed most) line from }
+signed_at most line from = record { value = if leb from (length line) then (signed_in most (drop from line)).value otherwise pos 0; next = next_at (is_signed most) line from }
 
 -- ---- why a line is no row, field by field
 abbrev pub commas_in : List ℕ → ℕ
 commas_in [] = 0
-commas_in (b ∷ s) = if eqb b (code ",") then suc (commas_in s) else commas_in s
+commas_in (b ∷ s) = if eqb b (code ",") then suc (commas_in s) otherwise commas_in s
 
 -- The number of the first field that breaks its rule, that at the offset being number n; one past the last where each keeps its rule.
 abbrev pub first_lost : List ℕ → ℕ → List Holds → ℕ → ℕ
 first_lost line n [] from = n
 first_lost line n (what ∷ others) from =
     let next = next_at (rule_of what) line from in
-    if leb next (length line + 1) then first_lost line (n + 1) others next else n
+    if leb next (length line + 1) then first_lost line (n + 1) others next otherwise n
 
 -- What each case of an answer stands for.
 abbrev pub stated_fault : Faulty → Option Fault

@@ -11,7 +11,7 @@ use lib.Dec.{eqb, ltb, eqb-zero-suc, eqb-suc-zero, eqb-suc-suc, leb-suc-suc}
 use lib.ListN.{length, get_or, drop, drop_of_length-le, length-append}
 use lib.Seq.{drop-cons}
 use Rattle.whole.specs.Any.{any}
-use Rattle.whole.specs.Choice.{if◌then◌else◌}
+use Rattle.whole.specs.Choice.{if◌then◌otherwise◌}
 use Rattle.entry.specs.declared.entry.Entry.{Entry}
 use Rattle.examination.specs.declared.testing.Seen.{Seen}
 use Rattle.examination.specs.declared.testing.Noted.{Noted}
@@ -41,11 +41,11 @@ any-before test (x ∷ before) e = rw (any-before test before e) (sym (or_assoc 
 -- ---- the first place of a number is another
 first-before : (before : List Entry) (e : Entry) (rest : List Entry) (n : ℕ) → has n e ≡ true
     → not (eqb (first_at (before ++ e ∷ rest) n) (length before)) ≡ any (has n) before
-first-before [] e rest n p = ap (λ (t : Bool). not (eqb (if t then 0 else suc (first_at rest n)) 0)) p
+first-before [] e rest n p = ap (λ (t : Bool). not (eqb (if t then 0 otherwise suc (first_at rest n)) 0)) p
 first-before (x ∷ before) e rest n p = by (has n x) (first-before before e rest n p)
   where
     by : (t : Bool) → not (eqb (first_at (before ++ e ∷ rest) n) (length before)) ≡ any (has n) before
-        → not (eqb (if t then 0 else suc (first_at (before ++ e ∷ rest) n)) (suc (length before))) ≡ (t || any (has n) before)
+        → not (eqb (if t then 0 otherwise suc (first_at (before ++ e ∷ rest) n)) (suc (length before))) ≡ (t || any (has n) before)
     by true more = ap not (eqb-zero-suc (length before))
     by false more = ap not (eqb-suc-suc (first_at (before ++ e ∷ rest) n) (length before)) ∙ more
 
@@ -145,7 +145,7 @@ seen_end table s i l = ap (seen_from table s i) (drop_of_length-le table l)
 abbrev holds_bad : Entry → Bool
 holds_bad e = not (is_free e) && is_bad e.certificate
 
-field_if : {A : Type 0} (field : Seen → A) (t : Bool) (x y : Seen) → field (if t then x else y) ≡ (if t then field x else field y)
+field_if : {A : Type 0} (field : Seen → A) (t : Bool) (x y : Seen) → field (if t then x otherwise y) ≡ (if t then field x otherwise field y)
 field_if field true x y = refl
 field_if field false x y = refl
 
@@ -153,17 +153,17 @@ seen_bad : (s : Seen) (e : Entry) (i f : ℕ) (t : Bool) → not (eqb f i) ≡ t
 seen_bad s e i f t p = field_if (λ (x : Seen). x.bad) (is_free e) _ _ ∙ by (is_free e)
   where
     by : (u : Bool)
-        → (if u then s.bad else (s.bad || not (eqb f i)) || is_bad e.certificate) ≡ (s.bad || ((not u && t) || (not u && is_bad e.certificate)))
+        → (if u then s.bad otherwise (s.bad || not (eqb f i)) || is_bad e.certificate) ≡ (s.bad || ((not u && t) || (not u && is_bad e.certificate)))
     by true = sym (or_false s.bad)
     by false = rw p (or_assoc s.bad t (is_bad e.certificate))
 
-seen-places : (s : Seen) (e : Entry) (i f : ℕ) → (seen s e i f).places ≡ (if is_free e then s.places + 1 else s.places)
+seen-places : (s : Seen) (e : Entry) (i f : ℕ) → (seen s e i f).places ≡ (if is_free e then s.places + 1 otherwise s.places)
 seen-places s e i f = field_if (λ (x : Seen). x.places) (is_free e) _ _
 
 pub seen-room : (s : Seen) (e : Entry) (i f : ℕ) → s.places ≤ i → (seen s e i f).places ≤ i + 1
 seen-room s e i f l = rw (seen-places s e i f) (by (is_free e))
   where
-    by : (t : Bool) → (if t then s.places + 1 else s.places) ≤ i + 1
+    by : (t : Bool) → (if t then s.places + 1 otherwise s.places) ≤ i + 1
     by true = omega (arith, l)
     by false = omega (arith, l)
 
@@ -174,7 +174,7 @@ places_from table s i (e ∷ es) =
     ∙ ap (λ (n : ℕ). n + places es) (seen-places s e i (first_at table e.number.0))
     ∙ by (is_free e)
   where
-    by : (t : Bool) → (if t then s.places + 1 else s.places) + places es ≡ s.places + (if t then suc (places es) else places es)
+    by : (t : Bool) → (if t then s.places + 1 otherwise s.places) + places es ≡ s.places + (if t then suc (places es) otherwise places es)
     by true = omega arith
     by false = refl
 
@@ -228,7 +228,7 @@ module _ (table list : List Entry) where
     where
       by : (t : Bool)
           → ((s.short || (t && eqb s.left 0)) || ltb (left_after s.left t) (count (is_new table) es))
-          ≡ (s.short || ltb s.left (if t then suc (count (is_new table) es) else count (is_new table) es))
+          ≡ (s.short || ltb s.left (if t then suc (count (is_new table) es) otherwise count (is_new table) es))
       by true =
           or_assoc s.short (eqb s.left 0) (ltb (s.left - 1) (count (is_new table) es))
           ∙ ap (λ (t : Bool). s.short || t) (new_short s.left (count (is_new table) es))

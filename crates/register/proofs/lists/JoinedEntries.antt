@@ -8,7 +8,7 @@ use borrow.Author.Tests.{eqb-true, eq-eqb, lt-ltb, le-ltb, ltb-true, ltb-false, 
 use lib.Dec.{eqb, ltb}
 use lib.IntN.{ℤ}
 use lib.Signed.{lt_z}
-use Rattle.whole.specs.Choice.{if◌then◌else◌}
+use Rattle.whole.specs.Choice.{if◌then◌otherwise◌}
 use Rattle.whole.proofs.Choice.{and_true}
 use Rattle.whole.proofs.Machine.{lt_no, no_lt}
 use Rattle.whole.proofs.Parts.{ints}
@@ -65,7 +65,7 @@ same_self k =
 pub higher_is : (x y : Serial) → (higher x y).0 ≡ max x.0 y.0
 higher_is x y = by (ltb x.0 y.0) refl
   where
-    by : (t : Bool) → ltb x.0 y.0 ≡ t → (if t then y else x).0 ≡ max x.0 y.0
+    by : (t : Bool) → ltb x.0 y.0 ≡ t → (if t then y otherwise x).0 ≡ max x.0 y.0
     by true e = omega (arith, ltb-true x.0 y.0 e)
     by false e = omega (arith, ltb-false x.0 y.0 e)
 
@@ -113,7 +113,7 @@ joined-held held e f = rw f
 pub joined-twice : (held e : Entry) → merged (joined held e) e ≡ joined held e
 joined-twice held e = by (is_free held)
   where
-    by : (t : Bool) → merged (if t then e else merged held e) e ≡ (if t then e else merged held e)
+    by : (t : Bool) → merged (if t then e otherwise merged held e) e ≡ (if t then e otherwise merged held e)
     by true = merged-within e e (omega arith) (omega arith)
     by false = merged-twice held e
 
@@ -121,27 +121,27 @@ joined-twice held e = by (is_free held)
 pub joined-clash : (held e : Entry) → clash held e ≡ false → clash (joined held e) e ≡ false
 joined-clash held e c = by (is_free held) refl
   where
-    by : (t : Bool) → is_free held ≡ t → clash (if t then e else merged held e) e ≡ false
+    by : (t : Bool) → is_free held ≡ t → clash (if t then e otherwise merged held e) e ≡ false
     by true f = clash-not e e (λ s. refl)
     by false f = clash-not (merged held e) e (one (ltb held.serial.0 e.serial.0))
       where
-        one : (t : Bool) → (if t then e.serial else held.serial).0 ≡ e.serial.0 → (if t then e.certificate else held.certificate) ≡ e.certificate
+        one : (t : Bool) → (if t then e.serial otherwise held.serial).0 ≡ e.serial.0 → (if t then e.certificate otherwise held.certificate) ≡ e.certificate
         one true s = refl
         one false s = no_clash held e f c s
 
 pub merged_good : (held e : Entry) → is_bad held.certificate ≡ false → is_bad e.certificate ≡ false → is_bad (merged held e).certificate ≡ false
 merged_good held e p q = by (ltb held.serial.0 e.serial.0)
   where
-    by : (t : Bool) → is_bad (if t then e.certificate else held.certificate) ≡ false
+    by : (t : Bool) → is_bad (if t then e.certificate otherwise held.certificate) ≡ false
     by true = q
     by false = p
 
 -- ---- two entries that come in, in either order
 -- the certificate of the higher serial, where one serial has one certificate
-either : (k l : Given) (s t : ℕ) → (s ≡ t → k ≡ l) → (if ltb s t then l else k) ≡ (if ltb t s then k else l)
+either : (k l : Given) (s t : ℕ) → (s ≡ t → k ≡ l) → (if ltb s t then l otherwise k) ≡ (if ltb t s then k otherwise l)
 either k l s t h = by (dec_lt s t) (dec_lt t s)
   where
-    by : Dec (s < t) → Dec (t < s) → (if ltb s t then l else k) ≡ (if ltb t s then k else l)
+    by : Dec (s < t) → Dec (t < s) → (if ltb s t then l otherwise k) ≡ (if ltb t s then k otherwise l)
     by (yes p) q = rw (lt-ltb s t p, le-ltb t s (omega (arith, p)))
     by (no p) (yes q) = rw (le-ltb s t (omega (arith, q)), lt-ltb t s q)
     by (no p) (no q) = rw (le-ltb s t (omega arith), le-ltb t s (omega arith), h (omega arith))

@@ -8,7 +8,7 @@ use native.Mathlib.Omega.{arith}
 use lib.Dec.{eqb}
 use lib.ListN.{length, get_or, drop, set, drop_of_length-le, get_or-eq_default}
 use lib.Seq.{drop-cons, set_out}
-use Rattle.whole.specs.Choice.{if◌then◌else◌}
+use Rattle.whole.specs.Choice.{if◌then◌otherwise◌}
 use Rattle.entry.specs.declared.entry.Entry.{Entry}
 use Rattle.entry.specs.Entry.{free}
 use Rattle.register.specs.Table.{has, first_at, entry_of, put}
@@ -20,7 +20,7 @@ entry_at_first [] n = refl
 entry_at_first (e ∷ es) n = by (has n e) (entry_at_first es n)
   where
     by : (t : Bool) → get_or es (first_at es n) free ≡ entry_of es n
-        → get_or (e ∷ es) (if t then 0 else suc (first_at es n)) free ≡ (if t then e else entry_of es n)
+        → get_or (e ∷ es) (if t then 0 otherwise suc (first_at es n)) free ≡ (if t then e otherwise entry_of es n)
     by true rest = refl
     by false rest = rest
 
@@ -30,7 +30,7 @@ set_at_first [] n x = refl
 set_at_first (e ∷ es) n x = by (has n e) (set_at_first es n x)
   where
     by : (t : Bool) → set es (first_at es n) x ≡ put es n x
-        → set (e ∷ es) (if t then 0 else suc (first_at es n)) x ≡ (if t then x ∷ es else e ∷ put es n x)
+        → set (e ∷ es) (if t then 0 otherwise suc (first_at es n)) x ≡ (if t then x ∷ es otherwise e ∷ put es n x)
     by true rest = refl
     by false rest = ap (λ (members : List Entry). e ∷ members) rest
 
@@ -44,10 +44,10 @@ module _ (table : List Entry) (n : ℕ) where
 
   -- where the search goes on from a place
   first-at-step : (i : ℕ) (t : Bool) → i < length table → eqb (get_or table i free).number.0 n ≡ t
-      → first_at (drop i table) n ≡ (if t then 0 else suc (first_at (drop (suc i) table) n))
+      → first_at (drop i table) n ≡ (if t then 0 otherwise suc (first_at (drop (suc i) table) n))
   first-at-step i t l e =
       ap (λ (rest : List Entry). first_at rest n) (drop-cons table i free l)
-      ∙ ap (λ (hit : Bool). if hit then 0 else suc (first_at (drop (suc i) table) n)) e
+      ∙ ap (λ (hit : Bool). if hit then 0 otherwise suc (first_at (drop (suc i) table) n)) e
 
   pub first-at-match : (i : ℕ) → NoneBefore i → i < length table → eqb (get_or table i free).number.0 n ≡ true → i ≡ first_at table n
   first-at-match i p l e = omega (arith, p, first-at-step i true l e)

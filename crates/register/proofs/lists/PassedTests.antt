@@ -7,7 +7,7 @@ use native.Mathlib.Omega.{arith}
 use borrow.Author.Tests.{eqb-true, not-false, ltb-false}
 use lib.Dec.{eqb}
 use Rattle.whole.specs.Any.{any}
-use Rattle.whole.specs.Choice.{if◌then◌else◌}
+use Rattle.whole.specs.Choice.{if◌then◌otherwise◌}
 use Rattle.whole.proofs.Any.{or_false}
 use Rattle.entry.specs.declared.entry.Entry.{Entry}
 use Rattle.certificate.specs.declared.soundness.Given.{Given}
@@ -50,7 +50,7 @@ pub record Passed (table list : List Entry) : Type 0 where
   pub all_find_room : short table list ≡ false
 
 -- a test whose number is not the answer has not fired
-test_not_fired : (t : Bool) (k n : ℕ) → (if t then suc k else n) ≡ 0 → (t ≡ false) × (n ≡ 0)
+test_not_fired : (t : Bool) (k n : ℕ) → (if t then suc k otherwise n) ≡ 0 → (t ≡ false) × (n ≡ 0)
 test_not_fired true k n e = absurd (omega (arith, e))
 test_not_fired false k n e = (refl, e)
 

@@ -7,7 +7,7 @@ use native.Mathlib.Omega.{arith}
 use borrow.Author.Tests.{eqb-true, eq-eqb}
 use lib.Dec.{eqb}
 use Rattle.whole.specs.Any.{any}
-use Rattle.whole.specs.Choice.{if◌then◌else◌}
+use Rattle.whole.specs.Choice.{if◌then◌otherwise◌}
 use Rattle.whole.proofs.Any.{or_false}
 use Rattle.entry.specs.declared.entry.Entry.{Entry}
 use Rattle.entry.specs.Entry.{is_bad, is_free, free, merged, joined}
@@ -64,7 +64,7 @@ module _ (table : List Entry) (e : Entry) (named : is_free e ≡ false) where
       by (there m h) = ap (λ (t : List Entry). entry_of t n) (placed-at-own h) ∙ entry_other table e.number.0 n (merged held e) o (rw h o)
 
   -- room for so many new ones after it
-  room_after : (c : ℕ) → (if is_new table e then suc c else c) ≤ places table → c ≤ places (placed table e)
+  room_after : (c : ℕ) → (if is_new table e then suc c otherwise c) ≤ places table → c ≤ places (placed table e)
   room_after c room = by (sought table e.number.0)
     where
       by : Sought table e.number.0 held → c ≤ places (placed table e)
@@ -153,7 +153,7 @@ module _ (table : List Entry) (e : Entry) (es : List Entry) (r : Ready table (e 
   joined-next : (n : ℕ) → eqb n 0 ≡ false → joined (entry_of (placed table e) n) (entry_of es n) ≡ joined (entry_of table n) (entry_of (e ∷ es) n)
   joined-next n z = by (has n e) refl
     where
-      by : (t : Bool) → has n e ≡ t → joined (entry_of (placed table e) n) (entry_of es n) ≡ joined (entry_of table n) (if t then e else entry_of es n)
+      by : (t : Bool) → has n e ≡ t → joined (entry_of (placed table e) n) (entry_of es n) ≡ joined (entry_of table n) (if t then e otherwise entry_of es n)
       by false h = ap (λ (x : Entry). joined x (entry_of es n)) (entry_kept table e named-first n z h)
       by true h =
           let q : e.number.0 ≡ n = eqb-true e.number.0 n h in

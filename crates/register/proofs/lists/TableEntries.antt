@@ -7,7 +7,7 @@ use native.Mathlib.Omega.{arith}
 use borrow.Author.Tests.{eqb-true, eqb-false, eq-eqb, ne_eqb}
 use lib.Dec.{eqb}
 use Rattle.whole.specs.Any.{any}
-use Rattle.whole.specs.Choice.{if◌then◌else◌}
+use Rattle.whole.specs.Choice.{if◌then◌otherwise◌}
 use Rattle.whole.proofs.Any.{or_false}
 use Rattle.entry.specs.declared.entry.Entry.{Entry}
 use Rattle.entry.specs.Entry.{is_free, free}
@@ -54,7 +54,7 @@ pub sought : (es : List Entry) (n : ℕ) → Sought es n (entry_of es n)
 sought [] n = missing refl refl
 sought (e ∷ es) n = by (has n e) refl (sought es n)
   where
-    by : (t : Bool) → has n e ≡ t → Sought es n (entry_of es n) → Sought (e ∷ es) n (if t then e else entry_of es n)
+    by : (t : Bool) → has n e ≡ t → Sought es n (entry_of es n) → Sought (e ∷ es) n (if t then e otherwise entry_of es n)
     by true h s = there first (eqb-true e.number.0 n h)
     by false h (there m k) = there (later m) k
     by false h (missing f k) = missing f (rw (h) k)
@@ -99,7 +99,7 @@ pub entry_put : (es : List Entry) (k n : ℕ) (x : Entry) → x.number.0 ≡ n �
 entry_put [] k n x e h f = absurd (false≢true h)
 entry_put (y ∷ ys) k n x e h f = by (has k y) refl (λ i. entry_put ys k n x e i (λ z m. f z (later m)))
   where
-    by : (t : Bool) → has k y ≡ t → (any (has k) ys ≡ true → entry_of (put ys k x) n ≡ x) → entry_of (if t then x ∷ ys else y ∷ put ys k x) n ≡ x
+    by : (t : Bool) → has k y ≡ t → (any (has k) ys ≡ true → entry_of (put ys k x) n ≡ x) → entry_of (if t then x ∷ ys otherwise y ∷ put ys k x) n ≡ x
     by true p ih = rw (eq-eqb x.number.0 n e)
     by false p ih = rw (f y first p) (ih (rw p at h))
 
@@ -107,7 +107,7 @@ pub entry_other : (es : List Entry) (k n : ℕ) (x : Entry) → eqb k n ≡ fals
 entry_other [] k n x p q = refl
 entry_other (y ∷ ys) k n x p q = by (has k y) refl (entry_other ys k n x p q)
   where
-    by : (t : Bool) → has k y ≡ t → entry_of (put ys k x) n ≡ entry_of ys n → entry_of (if t then x ∷ ys else y ∷ put ys k x) n ≡ entry_of (y ∷ ys) n
+    by : (t : Bool) → has k y ≡ t → entry_of (put ys k x) n ≡ entry_of ys n → entry_of (if t then x ∷ ys otherwise y ∷ put ys k x) n ≡ entry_of (y ∷ ys) n
     by true h ih = rw (q, eqb-true y.number.0 k h, p)
     by false h ih = rw ih
 
@@ -115,7 +115,7 @@ pub put-own : (es : List Entry) (n : ℕ) → put es n (entry_of es n) ≡ es
 put-own [] n = refl
 put-own (y ∷ ys) n = by (has n y) (put-own ys n)
   where
-    by : (t : Bool) → put ys n (entry_of ys n) ≡ ys → (if t then (if t then y else entry_of ys n) ∷ ys else y ∷ put ys n (if t then y else entry_of ys n)) ≡ y ∷ ys
+    by : (t : Bool) → put ys n (entry_of ys n) ≡ ys → (if t then (if t then y otherwise entry_of ys n) ∷ ys otherwise y ∷ put ys n (if t then y otherwise entry_of ys n)) ≡ y ∷ ys
     by true ih = refl
     by false ih = rw ih
 
@@ -125,7 +125,7 @@ any-put test (y ∷ ys) k x h e =
     let (p, q) = or_false (test y) (any test ys) h in
     by (has k y) p q (any-put test ys k x q e)
   where
-    by : (t : Bool) → test y ≡ false → any test ys ≡ false → any test (put ys k x) ≡ false → any test (if t then x ∷ ys else y ∷ put ys k x) ≡ false
+    by : (t : Bool) → test y ≡ false → any test ys ≡ false → any test (put ys k x) ≡ false → any test (if t then x ∷ ys otherwise y ∷ put ys k x) ≡ false
     by true p q ih = rw e q
     by false p q ih = rw p ih
 
@@ -138,7 +138,7 @@ module _ (n : ℕ) (x : Entry) (own : x.number.0 ≡ n) where
   has-put [] m = refl
   has-put (y ∷ ys) m = by (has n y) refl (has-put ys m)
     where
-      by : (t : Bool) → has n y ≡ t → any (has m) (put ys n x) ≡ any (has m) ys → any (has m) (if t then x ∷ ys else y ∷ put ys n x) ≡ any (has m) (y ∷ ys)
+      by : (t : Bool) → has n y ≡ t → any (has m) (put ys n x) ≡ any (has m) ys → any (has m) (if t then x ∷ ys otherwise y ∷ put ys n x) ≡ any (has m) (y ∷ ys)
       by true h ih = rw (numbers y h)
       by false h ih = rw ih
 
@@ -146,7 +146,7 @@ module _ (n : ℕ) (x : Entry) (own : x.number.0 ≡ n) where
   twice-put [] = refl
   twice-put (y ∷ ys) = by (has n y) refl (twice-put ys)
     where
-      by : (t : Bool) → has n y ≡ t → twice (put ys n x) ≡ twice ys → twice (if t then x ∷ ys else y ∷ put ys n x) ≡ twice (y ∷ ys)
+      by : (t : Bool) → has n y ≡ t → twice (put ys n x) ≡ twice ys → twice (if t then x ∷ ys otherwise y ∷ put ys n x) ≡ twice (y ∷ ys)
       by true h ih = rw (numbers y h)
       by false h ih = rw (ih, has-put ys y.number.0)
 
@@ -154,7 +154,7 @@ module _ (n : ℕ) (x : Entry) (own : x.number.0 ≡ n) where
   places-put [] = refl
   places-put (y ∷ ys) = by (has n y) refl (places-put ys)
     where
-      by : (t : Bool) → has n y ≡ t → places (put ys n x) ≡ places ys → places (if t then x ∷ ys else y ∷ put ys n x) ≡ places (y ∷ ys)
+      by : (t : Bool) → has n y ≡ t → places (put ys n x) ≡ places ys → places (if t then x ∷ ys otherwise y ∷ put ys n x) ≡ places (y ∷ ys)
       by true h ih = rw (numbers y h)
       by false h ih = rw ih
 
@@ -167,7 +167,7 @@ module _ (x : Entry) (named : is_free x ≡ false) where
       by (is_free y) refl p p' (twice-new ys p' (not_twice_rest y ys q))
     where
       by : (t : Bool) → is_free y ≡ t → has x.number.0 y ≡ false → any (has x.number.0) ys ≡ false → twice (put ys 0 x) ≡ false
-          → twice (if t then x ∷ ys else y ∷ put ys 0 x) ≡ false
+          → twice (if t then x ∷ ys otherwise y ∷ put ys 0 x) ≡ false
       by true h p p' ih = rw (named, p') (not_twice_rest y ys q)
       by false h p p' ih =
           let turned = eqb_false_turned y.number.0 x.number.0 p in
@@ -179,7 +179,7 @@ module _ (x : Entry) (named : is_free x ≡ false) where
   places-new (y ∷ ys) h = by (is_free y) refl (λ i. places-new ys i)
     where
       by : (t : Bool) → is_free y ≡ t → (any is_free ys ≡ true → suc (places (put ys 0 x)) ≡ places ys)
-          → suc (places (if t then x ∷ ys else y ∷ put ys 0 x)) ≡ places (y ∷ ys)
+          → suc (places (if t then x ∷ ys otherwise y ∷ put ys 0 x)) ≡ places (y ∷ ys)
       by true e ih = rw (named, e)
       by false e ih = rw e (ih (rw e at h))
 

@@ -8,7 +8,7 @@ use native.Mathlib.Omega.{arith}
 use borrow.Author.Tests.{eqb-true, ltb-true}
 use lib.Dec.{eqb, ltb}
 use lib.ListN.{length}
-use Rattle.whole.specs.Choice.{if◌then◌else◌}
+use Rattle.whole.specs.Choice.{if◌then◌otherwise◌}
 use Rattle.entry.specs.declared.entry.Entry.{Entry}
 use Rattle.entry.specs.declared.entry.Serial.{Serial}
 use Rattle.entry.specs.Entry.{is_free, merged, joined, raised}
@@ -69,9 +69,9 @@ joined_from table list n e accepted = by (is_free a) refl (ltb a.serial.0 b.seri
     one t =
         record {
           number = a.number;
-          serial = if t then b.serial else a.serial;
+          serial = if t then b.serial otherwise a.serial;
           mark = (merged a b).mark;
-          certificate = if t then b.certificate else a.certificate;
+          certificate = if t then b.certificate otherwise a.certificate;
         }
 
     -- an entry above another's serial is no free place
@@ -82,7 +82,7 @@ joined_from table list n e accepted = by (is_free a) refl (ltb a.serial.0 b.seri
         absurd (omega (arith, l, s))
 
     by : (f : Bool) → is_free a ≡ f → (t : Bool) → ltb a.serial.0 b.serial.0 ≡ t
-        → Matches (if f then b else one t) e
+        → Matches (if f then b otherwise one t) e
         → From table n e (Import list)
     by true f t l h = brought list accepted h
     by false f false l h = kept (Import list) (record { named = f; number = h.number; serial = h.serial; certificate = h.certificate })

@@ -6,7 +6,7 @@ use Prim.Native.Nat.{ℕ}
 use native.Mathlib.Omega.{arith}
 use borrow.Author.Tests.{eqb-true, le-ltb}
 use lib.Dec.{eqb}
-use Rattle.whole.specs.Choice.{if◌then◌else◌}
+use Rattle.whole.specs.Choice.{if◌then◌otherwise◌}
 use Rattle.entry.specs.declared.entry.Entry.{Entry}
 use Rattle.entry.specs.Entry.{is_free, clash, merged, joined}
 use Rattle.register.specs.Table.{entry_of, put, places}
@@ -40,7 +40,7 @@ joined_number table e = by (sought table e.number.0)
     by (missing h k) = ap (λ (x : Entry). (joined x e).number.0) h
     by (there m k) = one (is_free (entry_of table e.number.0))
       where
-        one : (t : Bool) → (if t then e else merged (entry_of table e.number.0) e).number.0 ≡ e.number.0
+        one : (t : Bool) → (if t then e otherwise merged (entry_of table e.number.0) e).number.0 ≡ e.number.0
         one true = refl
         one false = k
 

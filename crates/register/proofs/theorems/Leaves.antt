@@ -5,7 +5,7 @@ use mathlib.Core.List.{List}
 use Prim.Native.Nat.{ℕ}
 use borrow.Author.Tests.{eqb-true}
 use lib.Dec.{eqb}
-use Rattle.whole.specs.Choice.{if◌then◌else◌}
+use Rattle.whole.specs.Choice.{if◌then◌otherwise◌}
 use Rattle.quantity.specs.Outcomes.{Outcome, refused, number_given, Rule, Follows}
 use Rattle.entry.specs.declared.entry.Entry.{Entry}
 use Rattle.entry.specs.Entry.{raised}
@@ -20,10 +20,10 @@ module _ (rule : Rule (List Entry)) (next : List Entry) (only : (a : List Entry)
   abbrev number : ℕ
   number = number_given rule.tests
 
-  leaves : Follows rule o → (o.code ≡ number) × (o.answer ≡ (if eqb number 0 then next else rule.zeros))
+  leaves : Follows rule o → (o.code ≡ number) × (o.answer ≡ (if eqb number 0 then next otherwise rule.zeros))
   leaves = by (eqb number 0) refl
     where
-      by : (t : Bool) → eqb number 0 ≡ t → (if t then (o.code ≡ 0) × rule.Answer o.answer else o ≡ refused rule.zeros number) → (o.code ≡ number) × (o.answer ≡ (if t then next else rule.zeros))
+      by : (t : Bool) → eqb number 0 ≡ t → (if t then (o.code ≡ 0) × rule.Answer o.answer otherwise o ≡ refused rule.zeros number) → (o.code ≡ number) × (o.answer ≡ (if t then next otherwise rule.zeros))
       by true e h = (h.0 ∙ sym (eqb-true number 0 e), only o.answer h.1)
       by false e h = (ap (λ (x : Outcome (List Entry)). x.code) h, ap (λ (x : Outcome (List Entry)). x.answer) h)
 

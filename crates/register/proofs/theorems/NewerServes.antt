@@ -6,7 +6,7 @@ use Prim.Native.Nat.{ℕ, ◌<◌}
 use native.Mathlib.Omega.{arith}
 use borrow.Author.Tests.{eq-eqb, ne_eqb, lt-ltb}
 use lib.Dec.{ltb}
-use Rattle.whole.specs.Choice.{if◌then◌else◌}
+use Rattle.whole.specs.Choice.{if◌then◌otherwise◌}
 use Rattle.quantity.specs.Outcomes.{Outcome, Follows}
 use Rattle.law.specs.Answers.{LawAndStep}
 use Rattle.reading.specs.Reading.{read_given}
@@ -36,7 +36,7 @@ module _ (held e : Entry) (s : held.serial.0 < e.serial.0) where
   newer-certificate : (joined held e).certificate ≡ e.certificate
   newer-certificate = by (is_free held)
     where
-      by : (f : Bool) → (if f then e else merged held e).certificate ≡ e.certificate
+      by : (f : Bool) → (if f then e otherwise merged held e).certificate ≡ e.certificate
       by true = refl
       by false = rw (lt-ltb held.serial.0 e.serial.0 s)
 
@@ -47,7 +47,7 @@ module _ (held e : Entry) (s : held.serial.0 < e.serial.0) where
       above : (merged held e).mark.0 < (merged held e).serial.0
       above = omega (arith, s, m, own, higher_is held.mark e.mark, higher_is held.serial e.serial)
 
-      by : (f : Bool) → is_free held ≡ f → is_live (if f then e else merged held e) ≡ true
+      by : (f : Bool) → is_free held ≡ f → is_live (if f then e otherwise merged held e) ≡ true
       by true f = rw (named, lt-ltb e.mark.0 e.serial.0 own)
       by false f =
           let t : ltb (merged held e).mark.0 (merged held e).serial.0 ≡ true = lt-ltb (merged held e).mark.0 (merged held e).serial.0 above in

@@ -6,7 +6,7 @@ use Prim.Native.Nat.{ℕ, zero, suc}
 use borrow.Author.Tests.{eqb-true}
 use lib.Dec.{eqb}
 use lib.ListN.{length, get_or}
-use Rattle.whole.specs.Choice.{if◌then◌else◌}
+use Rattle.whole.specs.Choice.{if◌then◌otherwise◌}
 use Rattle.entry.specs.declared.entry.Entry.{Entry}
 use Rattle.entry.specs.declared.entry.Serial.{Serial}
 use Rattle.entry.specs.Entry.{is_free, free, joined, raised}
@@ -26,7 +26,7 @@ put-length : (es : List Entry) (n : ℕ) (x : Entry) → length (put es n x) ≡
 put-length [] n x = refl
 put-length (y ∷ ys) n x = by (has n y) (put-length ys n x)
   where
-    by : (t : Bool) → length (put ys n x) ≡ length ys → length (if t then x ∷ ys else y ∷ put ys n x) ≡ suc (length ys)
+    by : (t : Bool) → length (put ys n x) ≡ length ys → length (if t then x ∷ ys otherwise y ∷ put ys n x) ≡ suc (length ys)
     by true rest = refl
     by false rest = ap suc rest
 
@@ -38,7 +38,7 @@ module _ (n : ℕ) (x : Entry) (own : (y : Entry) → has n y ≡ true → is_fr
     where
       by : (t : Bool) → has n y ≡ t → ((place : ℕ) → is_free (get_or ys place free) ≡ false → (get_or (put ys n x) place free).number ≡ (get_or ys place free).number)
           → (place : ℕ) → is_free (get_or (y ∷ ys) place free) ≡ false
-          → (get_or (if t then x ∷ ys else y ∷ put ys n x) place free).number ≡ (get_or (y ∷ ys) place free).number
+          → (get_or (if t then x ∷ ys otherwise y ∷ put ys n x) place free).number ≡ (get_or (y ∷ ys) place free).number
       by true h rest zero f = own y h f
       by true h rest (suc place) f = refl
       by false h rest zero f = refl
@@ -79,7 +79,7 @@ import_keeps : (table list : List Entry) → Keeps table (imported table list)
 unfolding imported
 import_keeps table list = by (eqb (import_refusal table list) 0)
   where
-    by : (t : Bool) → Keeps table (if t then placed_all table list else table)
+    by : (t : Bool) → Keeps table (if t then placed_all table list otherwise table)
     by true = placed_all_keeps table list
     by false = keeps_self table
 
@@ -98,7 +98,7 @@ withdrawal_keeps table n serial = by (eqb (withdrawal_refusal table n) 0) refl
         let s : held.number.0 ≡ y.number.0 = p ∙ sym q in
         λ i. record { 0 = s i }
 
-    by : (t : Bool) → eqb (withdrawal_refusal table n) 0 ≡ t → Keeps table (if t then put table n (raised held serial) else table)
+    by : (t : Bool) → eqb (withdrawal_refusal table n) 0 ≡ t → Keeps table (if t then put table n (raised held serial) otherwise table)
     by true a = put_keeps n (raised held serial) (own (eqb-true (withdrawal_refusal table n) 0 a)) table
     by false a = keeps_self table
 
