@@ -20,7 +20,7 @@ pub struct After {
     pub change: Change,
 }
 
-// Made in a call of its own, which needs no walk.
+// The table that is left, with the answer.
 pub fn with_answer(table: [Entry; 4], change: Change) -> After
     ensures { (result.table ≡ table) × (result.change ≡ change) }
 {

@@ -1,6 +1,6 @@
 -- What the tests of a table and of a list find, gathered entry by entry, is what their definitions say.
 use mathlib.Core.Path.{◌≡◌, refl, sym, ◌∙◌, ap}
-use mathlib.Core.Bool.{Bool, true, false, ◌&&◌, ◌||◌, not, and_false, or_false, or_assoc, or_comm, and-or_distrib_left}
+use mathlib.Core.Bool.{Bool, true, false, ◌&&◌, ◌||◌, not, and-false, or-false, or_assoc, or_comm, and-or_distrib_left}
 use mathlib.Core.List.{List, [], ◌∷◌, ◌++◌, append_assoc}
 use Prim.Native.Nat.{ℕ, zero, suc, ◌+◌, ◌-◌, ◌<◌, ◌≤◌}
 use native.Mathlib.Nat.{sub-zero, suc-sub-suc}
@@ -35,7 +35,7 @@ or_round : (a b c d : Bool) → (a || (b || (c || d))) ≡ ((d || b) || (a || c)
 or_round a b c d = simp (or_assoc, or_comm, or_swap)
 
 any-before : (test : Entry → Bool) (before : List Entry) (e : Entry) → any test (before ++ e ∷ []) ≡ (any test before || test e)
-any-before test [] e = or_false (test e)
+any-before test [] e = or-false (test e)
 any-before test (x ∷ before) e = rw (any-before test before e) (sym (or_assoc (test x) (any test before) (test e)))
 
 -- ---- the first place of a number is another
@@ -67,7 +67,7 @@ same_number m n = by (eqb m n) refl
   where
     by : (t : Bool) → eqb m n ≡ t → (not (eqb n 0) && eqb m n) ≡ (not (eqb m 0) && eqb n m)
     by true p = rw (eqb-true m n p)
-    by false p = rw (p, ne_eqb n m (λ (q : n ≡ m). eqb-false m n p (sym q))) (and_false (not (eqb n 0)) ∙ sym (and_false (not (eqb m 0))))
+    by false p = rw (p, ne_eqb n m (λ (q : n ≡ m). eqb-false m n p (sym q))) (and-false (not (eqb n 0)) ∙ sym (and-false (not (eqb m 0))))
 
 again_more : (before : List Entry) (e x : Entry) → again (before ++ e ∷ []) x ≡ (again before x || (not (is_free e) && has e.number.0 x))
 again_more before e x =
@@ -76,7 +76,7 @@ again_more before e x =
 
 any_again : (before : List Entry) (e : Entry) (es : List Entry)
     → any (again (before ++ e ∷ [])) es ≡ (any (again before) es || (not (is_free e) && any (has e.number.0) es))
-any_again before e [] = sym (and_false (not (is_free e)))
+any_again before e [] = sym (and-false (not (is_free e)))
 any_again before e (x ∷ es) =
     rw (again_more before e x, any_again before e es, and-or_distrib_left (not (is_free e)) (has e.number.0 x) (any (has e.number.0) es))
     (or_pairs (again before x) (not (is_free e) && has e.number.0 x) (any (again before) es) (not (is_free e) && any (has e.number.0) es))
@@ -89,10 +89,10 @@ repeats_is before (e ∷ es) =
 
 none_again : (rest : List Entry) → any (again []) rest ≡ false
 none_again [] = refl
-none_again (e ∷ es) = rw (and_false (not (is_free e))) (none_again es)
+none_again (e ∷ es) = rw (and-false (not (is_free e))) (none_again es)
 
 repeats_twice : (list : List Entry) → repeats [] list ≡ twice list
-repeats_twice list = repeats_is [] list ∙ ap (λ (t : Bool). twice list || t) (none_again list) ∙ or_false (twice list)
+repeats_twice list = repeats_is [] list ∙ ap (λ (t : Bool). twice list || t) (none_again list) ∙ or-false (twice list)
 
 -- ---- one note taken in a run through a list, from one place on
 module _
@@ -103,7 +103,7 @@ module _
     -- whether any passes a test
     any-noted : ((s : S) (e : Entry) (i : ℕ) → note (turn s e i) ≡ (note s || test e))
         → (es : List Entry) (s : S) (i : ℕ) → note (run s i es) ≡ (note s || any test es)
-    any-noted each [] s i = ap note (ends s i) ∙ sym (or_false (note s))
+    any-noted each [] s i = ap note (ends s i) ∙ sym (or-false (note s))
     any-noted each (e ∷ es) s i =
         ap note (goes s i e es)
         ∙ any-noted each es (turn s e i) (i + 1)
@@ -116,7 +116,7 @@ module _
         → note (turn s e i) ≡ (note s || ((not (is_free e) && t) || test e)))
         → (before rest : List Entry) (s : S) (i : ℕ) → all ≡ before ++ rest → i ≡ length before
         → note (run s i rest) ≡ (note s || (repeats before rest || any test rest))
-    repeats-noted all each before [] s i p q = ap note (ends s i) ∙ sym (or_false (note s))
+    repeats-noted all each before [] s i p q = ap note (ends s i) ∙ sym (or-false (note s))
     repeats-noted all each before (e ∷ es) s i p q =
         let other : not (eqb (first_at all e.number.0) i) ≡ any (has e.number.0) before = rw (p, q) (elsewhere before e es) in
         ap note (goes s i e es)
@@ -154,7 +154,7 @@ seen_bad s e i f t p = field_if (λ (x : Seen). x.bad) (is_free e) _ _ ∙ by (i
   where
     by : (u : Bool)
         → (if u then s.bad otherwise (s.bad || not (eqb f i)) || is_bad e.certificate) ≡ (s.bad || ((not u && t) || (not u && is_bad e.certificate)))
-    by true = sym (or_false s.bad)
+    by true = sym (or-false s.bad)
     by false = rw p (or_assoc s.bad t (is_bad e.certificate))
 
 seen-places : (s : Seen) (e : Entry) (i f : ℕ) → (seen s e i f).places ≡ (if is_free e then s.places + 1 otherwise s.places)
@@ -215,14 +215,14 @@ new_short (suc left) new = rw (eqb-suc-zero left, suc-sub-suc left 0, sub-zero l
 unfit_once : (a b t : Bool) → ((a || b) || t) ≡ (a || ((not b && t) || b))
 unfit_once true b t = refl
 unfit_once false true t = refl
-unfit_once false false t = sym (or_false t)
+unfit_once false false t = sym (or-false t)
 
 module _ (table list : List Entry) where
   abbrev turn : Noted → Entry → ℕ → Noted
   turn s e k = noted s e k (first_at list e.number.0) (entry_of table e.number.0)
 
   short-from : (es : List Entry) (s : Noted) (k : ℕ) → (noted_from table list s k es).short ≡ (s.short || ltb s.left (count (is_new table) es))
-  short-from [] s k = rw (le-ltb s.left 0 (omega arith)) (sym (or_false s.short))
+  short-from [] s k = rw (le-ltb s.left 0 (omega arith)) (sym (or-false s.short))
   short-from (e ∷ es) s k =
       short-from es (turn s e k) (k + 1) ∙ by (is_new table e)
     where

@@ -20,17 +20,23 @@ pub data Member (e : Entry) : List Entry → Type 0 where
 
 -- where none passes a test, no member does
 pub member_fails : (test : Entry → Bool) (es : List Entry) (e : Entry) → any test es ≡ false → Member e es → test e ≡ false
-member_fails test es e h (first {es = rest}) = (or_false (test e) (any test rest) h).0
-member_fails test es e h (later {f} {es = rest} m) = member_fails test rest e (or_false (test f) (any test rest) h).1 m
+member_fails test es e = by es
+  where
+    by : (es : List Entry) → any test es ≡ false → Member e es → test e ≡ false
+    by es h (first {es = rest}) = (or_false (test e) (any test rest) h).0
+    by es h (later {f} {es = rest} m) = by rest (or_false (test f) (any test rest) h).1 m
 
 -- where one does, some do
 pub member_passes : (test : Entry → Bool) (es : List Entry) (e : Entry) → test e ≡ true → Member e es → any test es ≡ true
-member_passes test es e h (first {es = rest}) = rw h
-member_passes test es e h (later {f} {es = rest} m) = by (test f) (member_passes test rest e h m)
+member_passes test es e h = by es
   where
-    by : (t : Bool) → any test rest ≡ true → (t || any test rest) ≡ true
-    by true ih = refl
-    by false ih = ih
+    or_rest : (t : Bool) (rest : List Entry) → any test rest ≡ true → (t || any test rest) ≡ true
+    or_rest true rest ih = refl
+    or_rest false rest ih = ih
+
+    by : (es : List Entry) → Member e es → any test es ≡ true
+    by es (first {es = rest}) = rw h
+    by es (later {f} {es = rest} m) = or_rest (test f) rest (by rest m)
 
 -- where no member passes a test, none does
 pub any_fails : (test : Entry → Bool) (es : List Entry) → ((e : Entry) → Member e es → test e ≡ false) → any test es ≡ false
@@ -85,12 +91,15 @@ eqb_false_turned m n h = ne_eqb n m (λ e. eqb-false m n h (sym e))
 
 -- so the entry of a member's number is that member
 pub entry_of_member : (es : List Entry) (e : Entry) → twice es ≡ false → is_free e ≡ false → Member e es → entry_of es e.number.0 ≡ e
-entry_of_member es e h f (first {es = rest}) = rw (eq-eqb e.number.0 e.number.0 refl)
-entry_of_member es e h f (later {f = g} {es = rest} m) = rw (by (is_free g) refl) (entry_of_member rest e (not_twice_rest g rest h) f m)
+entry_of_member es e h f m = by es h m
   where
-    by : (t : Bool) → is_free g ≡ t → has e.number.0 g ≡ false
-    by true z = ne_eqb g.number.0 e.number.0 (λ q. eqb-false e.number.0 0 f (sym q ∙ eqb-true g.number.0 0 z))
-    by false z = eqb_false_turned e.number.0 g.number.0 (member_fails (has g.number.0) rest e (not_twice_others g rest h z) m)
+    other : (g : Entry) (rest : List Entry) → twice (g ∷ rest) ≡ false → Member e rest → (t : Bool) → is_free g ≡ t → has e.number.0 g ≡ false
+    other g rest h m true z = ne_eqb g.number.0 e.number.0 (λ q. eqb-false e.number.0 0 f (sym q ∙ eqb-true g.number.0 0 z))
+    other g rest h m false z = eqb_false_turned e.number.0 g.number.0 (member_fails (has g.number.0) rest e (not_twice_others g rest h z) m)
+
+    by : (es : List Entry) → twice es ≡ false → Member e es → entry_of es e.number.0 ≡ e
+    by es h (first {es = rest}) = rw (eq-eqb e.number.0 e.number.0 refl)
+    by es h (later {f = g} {es = rest} m) = rw (other g rest h m (is_free g) refl) (by rest (not_twice_rest g rest h) m)
 
 -- ---- an entry put at a place
 -- a place is found, and nothing before it has the number that is asked for
