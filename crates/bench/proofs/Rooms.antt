@@ -2,7 +2,7 @@
 use mathlib.Core.Path.{◌≡◌, refl, sym}
 use mathlib.Core.Bool.{Bool, true, false}
 use mathlib.Core.List.{List, ◌++◌}
-use mathlib.Core.Option.{Option, none, some, some-injective, none-ne-some}
+use mathlib.Core.Option.{none, some, some-injective, none-ne-some}
 use Prim.Native.Nat.{ℕ, ◌+◌, ◌*◌, ◌≤◌}
 use Prim.Native.Char.{code}
 use native.Mathlib.Omega.{arith}
@@ -36,7 +36,6 @@ use Rattle.certificate.proofs.Made.{made-sized}
 use Rattle.reading.specs.Laws.{range_of}
 use Rattle.reading.specs.Forward.{forward_certificate}
 use Rattle.reading.proofs.LeastRatio.{inside, ratio_most}
-use Rattle.text.specs.Decimal.{decimal}
 use Rattle.text.specs.Columns.{Value, letter_at, integer_at, count_at}
 use Rattle.text.proofs.Decimals.{few_digits}
 use Rattle.row.specs.Places.{given_at}
