@@ -51,8 +51,8 @@ def antt_files():
 
 
 def declared():
-    """The project's own definitions, lemmas and fields, with the files that declare each."""
-    names = collections.defaultdict(set)
+    """The project's own definitions, lemmas and fields, with the files that declare each; and which are fields."""
+    names, fields = collections.defaultdict(set), set()
     for file in antt_files():
         if file.name in OF_RATTLE:
             continue
@@ -62,12 +62,13 @@ def declared():
         for record in RECORD.finditer(text):
             for found in FIELD.finditer(record[0]):
                 names[found[1]].add(file)
-    return names
+                fields.add(found[1])
+    return names, fields
 
 
 def table():
     """Old spelling to new, for names that are not in today's."""
-    names = declared()
+    names, fields = declared()
     functions = {in_snake(name) for name in names if re.match(r"[a-z]", name) and any("specs" in file.parts for file in names[name])} | OF_LIBRARY
     known = functions | {name for name in names if re.match(r"[A-Z]", name)}
     turned = {}
@@ -76,7 +77,7 @@ def table():
         if "-" in word and re.match(r"[a-zA-Z]", word):
             parts = word.split("-")
             if all(re.fullmatch(r"[A-Za-z0-9_']+", part) for part in parts):
-                joins = len(parts) == 2 and parts[0] in functions and parts[1] in known
+                joins = len(parts) == 2 and name not in fields and parts[0] in functions and parts[1] in known
                 new = ("-" if joins else "_").join(parts)
                 word = new
         if word != name:
@@ -137,7 +138,7 @@ def chosen_antt(text):
 
 def chosen_rust(text):
     """The same of the clauses and ghost lines of Rust."""
-    text = re.sub(r"^ghost use .*$", lambda m: chosen(m[0]), text, flags=re.M)
+    text = re.sub(r"^(?:(?:old|new): )?ghost use .*$", lambda m: chosen(m[0]), text, flags=re.M)
     out, at = [], 0
     while found := CLAUSE.search(text, at):
         end, depth = found.end(), 1

@@ -32,7 +32,7 @@ use Rattle.certificate.specs.declared.soundness.Certificate.{Certificate}
 use Rattle.certificate.specs.Certificate.{place_kept, sound, given_of, LawAndPlaces, held, no_places, given_by}
 use Rattle.certificate.specs.Record.{ratio, ratio_above, cell_missing, purity_cell_missing, impure, deviates, point, fitted, aluminium_ratio, made, record_of}
 use Rattle.certificate.specs.Promised.{MadeSound, MadeAccepted}
-use Rattle.certificate.proofs.Records.{all_measured, not-above, keeps-limit}
+use Rattle.certificate.proofs.Records.{all_measured, not_above, keeps-limit}
 use Rattle.certificate.proofs.Sound.{sound_limited}
 use Rattle.certificate.proofs.Answers.{held_unique}
 
@@ -92,7 +92,7 @@ module _ (ratios : Record) (above : ratio_above ratios ≡ false) (kept : deviat
 
 -- ---- what an answered record says
 record Passed (s : Subrange) (ratios : Record) : Type 0 where
-  not-above : ratio_above ratios ≡ false
+  not_above : ratio_above ratios ≡ false
   none_missing : cell_missing ratios (cells s) ≡ false
   kept : deviates ratios ≡ false
   not_beyond : beyond (fitted ratios (cells s)) ≡ false
@@ -105,10 +105,10 @@ tests_passed s ratios e =
     let not-5 = passed (purity_cell_missing ratios) 5 (impure s ratios gives 6 ∷ beyond_limit gives 7 ∷ []) (omega arith) not-4.1 in
     let not-6 = passed (impure s ratios) 6 (beyond_limit gives 7 ∷ []) (omega arith) not-5.1 in
     let not-7 = or_false (deviates ratios) (beyond (fitted ratios (cells s))) (passed beyond_limit 7 [] (omega arith) not-6.1).0 in
-    record { not-above = not-2.0; none_missing = not-4.0; kept = not-7.0; not_beyond = not-7.1 }
+    record { not_above = not-2.0; none_missing = not-4.0; kept = not-7.0; not_beyond = not-7.1 }
 
 passed_sound : (s : Subrange) (ratios : Record) → Passed s ratios → sound (made s ratios) ≡ true
-passed_sound s ratios p = made-sound ratios p.not-above p.kept s p.none_missing p.not_beyond
+passed_sound s ratios p = made-sound ratios p.not_above p.kept s p.none_missing p.not_beyond
 
 tested_sound : (s : Subrange) (ratios : Record) (k : Certificate) → Follows (record_of s ratios) (answered (held k)) → sound k ≡ true
 tested_sound s ratios k h =
@@ -130,10 +130,10 @@ pub record Sized (k : Places) : Type 0 where
 pub made-sized : (s : Subrange) (ratios : Record) → number_given (record_of s ratios).tests ≡ 0 → Sized (made s ratios).places
 made-sized s ratios e =
     let p = tests_passed s ratios e in
-    record { small = (sound_limited s (made s ratios).places (passed_sound s ratios p)).small; aluminium = by p.not-above (to_silver (carried s).form) }
+    record { small = (sound_limited s (made s ratios).places (passed_sound s ratios p)).small; aluminium = by p.not_above (to_silver (carried s).form) }
   where
     by : ratio_above ratios ≡ false → (silver : Bool) → (if silver then ratio ratios Al otherwise 0) ≤ largest_ratio
-    by above true = not-above ratios above Al
+    by above true = not_above ratios above Al
     by above false = omega arith
 
 -- a sound certificate is accepted

@@ -52,9 +52,9 @@ unfolding cell_missing
 all_measured ratios ps e p m = not-false (measured ratios p) (of_none (is_missing ratios) p ps m e)
 
 module _ (ratios : Record) (above : ratio_above ratios ≡ false) where
-  pub not-above : (p : Cell) → ratio ratios p ≤ largest_ratio
+  pub not_above : (p : Cell) → ratio ratios p ≤ largest_ratio
   unfolding ratio_above
-  not-above p = ltb-false largest_ratio (ratio ratios p) (no_cell (is_above ratios) above p)
+  not_above p = ltb-false largest_ratio (ratio ratios p) (no_cell (is_above ratios) above p)
 
   module _ (kept : deviates ratios ≡ false) where
     pub keeps-limit : (p : Cell) → measured ratios p ≡ true → within (Wr p) (ratio ratios p) ≡ true
@@ -67,7 +67,7 @@ module _ (ratios : Record) (above : ratio_above ratios ≡ false) where
         let l = limit (Wr p) w (keeps-limit p m) in
         record {
           from_zero = omega (ints, x_parts w);
-          to_largest = omega (ints, x_parts w, add_parts (x w) (pos one), not-above p);
+          to_largest = omega (ints, x_parts w, add_parts (x w) (pos one), not_above p);
           limit = keeps-limit p m;
           apart = λ e. not-one p (omega (ints, e, l, x_parts w, δ-parts (Wr p) w, one_part (x w), abs_parts (x w), abs_parts (δ (Wr p) w)));
         }

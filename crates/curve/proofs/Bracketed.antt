@@ -29,13 +29,13 @@ unfolding units
 bracketed r r0 step d l =
     let w = ratio_of r r0 in
     let n = (nearest r r0 d).0 in
-    let low : 2 * w * r0 * per_unit ≤ (2 * (r * one) + r0) * per_unit = mul-le-mul_right per_unit n.not-above in
+    let low : 2 * w * r0 * per_unit ≤ (2 * (r * one) + r0) * per_unit = mul-le-mul_right per_unit n.not_above in
     let s = add_parts step (pos 1) in
     let next = l.above (step +ℤ pos 1) (omega (ints, s)) (omega (ints, s, l.to_last)) in
     let sum = add_parts (exact (step +ℤ pos 1) *ℤ pos (2 * r0)) (pos (r0 * per_unit)) in
     record {
-      from_step = omega (ints, *ℤ-mono (exact step) (units w) (2 * r0) l.not-above, low);
-      to_next = omega (ints, *ℤ-strict (units w) (exact (step +ℤ pos 1)) (2 * r0) (omega (arith, divisor_above r0 d)) next, n.not-below, sum);
+      from_step = omega (ints, *ℤ-mono (exact step) (units w) (2 * r0) l.not_above, low);
+      to_next = omega (ints, *ℤ-strict (units w) (exact (step +ℤ pos 1)) (2 * r0) (omega (arith, divisor_above r0 d)) next, n.not_below, sum);
     }
 
 -- so where the tests of a reading are passed

@@ -142,8 +142,8 @@ module _ (kind : Kind) (bytes : ℕ) (small : (row : List Value) (o : Outcome ki
       by (some WrongCount) (e, f) = rw (is-fault WrongCount n e) (f ∙ ap (answer_line (ascii "?") (ascii "?") (blanks kind.own)) (sym e))
       by (some (Broken field)) (e, f) = absurd (not-14 e)
 
-  pub field-named : FieldNamed kind
-  field-named line t = by (fault_of kind.columns line) refl
+  pub field_named : FieldNamed kind
+  field_named line t = by (fault_of kind.columns line) refl
     where
       by : (found : Option Fault) → fault_of kind.columns line ≡ found → AnsweredBy kind line found (number_of FieldBroken) t
           → (field : ℕ) × FirstToBreak kind.columns line field × (t ≡ nameless_line (fault_columns kind.own (Broken field)) FieldBroken)
@@ -153,8 +153,8 @@ module _ (kind : Kind) (bytes : ℕ) (small : (row : List Value) (o : Outcome ki
       by (some (Broken field)) e (i, f) = (field, first-named kind.columns line field e, f)
 
   -- ---- before request 2
-  pub had-answer : HadAnswer kind
-  had-answer line n t = by (fault_of kind.columns line) refl
+  pub had_answer : HadAnswer kind
+  had_answer line n t = by (fault_of kind.columns line) refl
     where
       by : (found : Option Fault) → fault_of kind.columns line ≡ found → AnsweredBy kind line found n t → (before : ℕ) × (text_before : List ℕ) × AnsweredBefore kind line before text_before
       by none e h = (n, t, rw (a-row kind.columns line e) h)
@@ -185,7 +185,7 @@ lines_kept kind bytes one small short blank few = record {
   fit = answers-fit kind bytes small short blank few;
   numbers = numbers-of-lines kind bytes small;
   others_blank = others_blank kind bytes small;
-  field-named = field-named kind bytes small;
+  field_named = field_named kind bytes small;
   were_tens = were_tens kind bytes small one;
-  had-answer = had-answer kind bytes small;
+  had_answer = had_answer kind bytes small;
 }

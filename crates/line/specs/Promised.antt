@@ -69,9 +69,9 @@ pub record LinesKept (kind : Kind) (room : ℕ) : Type 0 where
   pub fit : AnswersFit kind room
   pub numbers : NumbersOfLines kind
   pub others_blank : OthersBlank kind
-  pub field-named : FieldNamed kind
+  pub field_named : FieldNamed kind
   pub were_tens : WereTens kind
-  pub had-answer : HadAnswer kind
+  pub had_answer : HadAnswer kind
 
 -- ---- wider limits of a resistance
 -- A line that was refused by 1 or by 14 may be answered otherwise under wider ones.

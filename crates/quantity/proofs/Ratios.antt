@@ -41,12 +41,12 @@ near : (r r0 : ℕ) → 0 < r0 → Nearest r r0 (ratio_of r r0)
 near r r0 p =
     let n = 2 * (r * one) + r0 in
     let under : n % (2 * r0) < 2 * r0 = mod-lt n (omega arith) in
-    record { not-above = omega (arith, div-add-mod n (2 * r0)); not-below = omega (arith, div-add-mod n (2 * r0), under) }
+    record { not_above = omega (arith, div-add-mod n (2 * r0)); not_below = omega (arith, div-add-mod n (2 * r0), under) }
 
 -- a larger resistance has no smaller ratio
 ordered : (r r' r0 v w : ℕ) → r ≤ r' → Nearest r r0 v → Nearest r' r0 w → v ≤ w
 ordered r r' r0 v w h x y =
-    let q : v < w + 1 = lt_of_mul-lt-mul_left (2 * r0) (omega (arith, x.not-above, y.not-below, h)) in
+    let q : v < w + 1 = lt_of_mul-lt-mul_left (2 * r0) (omega (arith, x.not_above, y.not_below, h)) in
     omega arith
 
 one_nearest : (r r0 v w : ℕ) → Nearest r r0 v → Nearest r r0 w → v ≡ w
@@ -65,12 +65,12 @@ rises r r' r0 d h =
 -- ---- the limit
 limit_kept : (r r0 w : ℕ) → Nearest r r0 w → 2 * (r * one) < (2 * largest_ratio + 1) * r0 → w ≤ largest_ratio
 limit_kept r r0 w x h =
-    let q : w < largest_ratio + 1 = lt_of_mul-lt-mul_left (2 * r0) (omega (arith, x.not-above, h)) in
+    let q : w < largest_ratio + 1 = lt_of_mul-lt-mul_left (2 * r0) (omega (arith, x.not_above, h)) in
     omega arith
 
 limit_passed : (r r0 w : ℕ) → Nearest r r0 w → (2 * largest_ratio + 1) * r0 ≤ 2 * (r * one) → largest_ratio < w
 limit_passed r r0 w x h =
-    let q : largest_ratio + 1 < w + 1 = lt_of_mul-lt-mul_left (2 * r0) (omega (arith, x.not-below, h)) in
+    let q : largest_ratio + 1 < w + 1 = lt_of_mul-lt-mul_left (2 * r0) (omega (arith, x.not_below, h)) in
     omega arith
 
 pub limit : RatioLimit
@@ -82,13 +82,13 @@ limit r r0 d =
 -- ---- a resistance that was set by its ratio
 -- by 1 Ω it is the ratio itself
 set_by_ohm : (r w : ℕ) → SetTo r one w → Nearest r one w
-set_by_ohm r w x = record { not-above = omega (arith, x.not-below); not-below = omega (arith, x.not-above) }
+set_by_ohm r w x = record { not_above = omega (arith, x.not_below); not_below = omega (arith, x.not_above) }
 
 set_nearest : (r r0 w : ℕ) → one ≤ r0 → SetTo r r0 w → Nearest r r0 w
 set_nearest r r0 w h x = by (dec_lt one r0)
   where
     by : Dec (one < r0) → Nearest r r0 w
-    by (yes l) = record { not-above = omega (arith, x.not-below); not-below = omega (arith, x.not-above) }
+    by (yes l) = record { not_above = omega (arith, x.not_below); not_below = omega (arith, x.not_above) }
     by (no l) =
         let e : r0 ≡ one = omega arith in
         rw e (set_by_ohm r w (rw e at x))

@@ -6,8 +6,8 @@ use Rattle.quantity.specs.Ratios.{ratio_tests, ratio_rule_up_to}
 
 -- W is above R/R0 by half a unit at most, and below it by less, so that an exact half goes up. Half a unit is added to both, and both are multiplied by 2 R0.
 pub record Nearest (r r0 w : ℕ) : Type 0 where
-  pub not-above : 2 * w * r0 ≤ 2 * (r * one) + r0
-  pub not-below : 2 * (r * one) + r0 < 2 * (w + 1) * r0
+  pub not_above : 2 * w * r0 ≤ 2 * (r * one) + r0
+  pub not_below : 2 * (r * one) + r0 < 2 * (w + 1) * r0
 
 -- The ratio is nearest in this sense, and no other whole number is.
 abbrev pub RatioNearest : Type 0
@@ -26,8 +26,8 @@ RatioLimit =
 
 -- R is set to W times R0, as near as whole nΩ come to it; between two of them it may be either.
 pub record SetTo (r r0 w : ℕ) : Type 0 where
-  pub not-above : 2 * (r * one) ≤ 2 * (w * r0) + one
-  pub not-below : 2 * (w * r0) ≤ 2 * (r * one) + one
+  pub not_above : 2 * (r * one) ≤ 2 * (w * r0) + one
+  pub not_below : 2 * (w * r0) ≤ 2 * (r * one) + one
 
 -- Then its ratio is W, where R0 is 1 Ω or more.
 abbrev pub SetHasRatio : Type 0

@@ -45,11 +45,11 @@ close s k e w h step l =
     let n = add_parts (carried s).top (pos 1) in
     let next : Wr form k w <ℤ working (step +ℤ pos 1) = l.above (step +ℤ pos 1) (omega (ints, m)) (omega (ints, m, n, l.to_last)) in
     record {
-      not-above =
+      not_above =
           through (reference.exact step) (exact_wr form k w) (working step) (Wr form k w) 9 rounding departure
           (reference-close.close step l.from_first (omega (ints, l.to_last, t)))
-          (loss.close form k e w h) l.not-above (omega arith);
-      not-below =
+          (loss.close form k e w h) l.not_above (omega arith);
+      not_below =
           through (exact_wr form k w) (reference.exact (step +ℤ pos 1)) (Wr form k w) (working (step +ℤ pos 1)) rounding 9 departure
           (loss.close form k e w h)
           (reference-close.close (step +ℤ pos 1) (omega (ints, m, l.from_first)) (omega (ints, m, l.to_last, t)))

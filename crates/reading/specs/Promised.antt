@@ -50,8 +50,8 @@ departure = 30
 -- The ratio w, nine decimals, is taken through the certificate's deviation function without rounding. The exact reference function at the step is never above
 -- the result by more than 0.0000000003, and at the next step never below it by more than that.
 pub record Close (form : Form) (k : Places) (w : ℕ) (step : ℤ) : Type 0 where
-  pub not-above : reference.exact step ≤ᶠ exact_wr form k w +ᶠ integer (pos departure)
-  pub not-below : exact_wr form k w ≤ᶠ reference.exact (step +ℤ pos 1) +ᶠ integer (pos departure)
+  pub not_above : reference.exact step ≤ᶠ exact_wr form k w +ᶠ integer (pos departure)
+  pub not_below : exact_wr form k w ≤ᶠ reference.exact (step +ℤ pos 1) +ᶠ integer (pos departure)
 
 -- First half: so it is with every answer by the scale.
 abbrev pub AnswersClose : Type 0

@@ -12,8 +12,8 @@ use Rattle.reference.specs.Inverse.{Inverted}
 use Rattle.reference.proofs.Rising.{one_up, rises}
 
 -- a largest step is neither below nor past the scale
-not-below : (value a : ℤ) → Largest working (pos 0) last value a → value <ℤ working (pos 0) → ⊥
-not-below = largest-not-below working (pos 0) last one_up
+not_below : (value a : ℤ) → Largest working (pos 0) last value a → value <ℤ working (pos 0) → ⊥
+not_below = largest-not-below working (pos 0) last one_up
 
 not_past : (value a : ℤ) → Largest working (pos 0) last value a → working past_last ≤ℤ value → ⊥
 not_past = largest-not-past working (pos 0) last one_up
@@ -23,9 +23,9 @@ below_not_past value h k = omega (ints, rises (pos 0) past_last (omega ints) (om
 
 pub only_one : (value : ℤ) (x y : Inverse) → Inverted value x → Inverted value y → x ≡ y
 only_one value Below Below p q = refl
-only_one value Below (At b) p q = absurd (not-below value b.0 q p)
+only_one value Below (At b) p q = absurd (not_below value b.0 q p)
 only_one value Below Past p q = absurd (below_not_past value p q)
-only_one value (At a) Below p q = absurd (not-below value a.0 p q)
+only_one value (At a) Below p q = absurd (not_below value a.0 p q)
 only_one value (At a) (At b) p q = ap At (ap (λ (z : ℤ). record { 0 = z }) (largest-unique working (pos 0) last value a.0 b.0 p q))
 only_one value (At a) Past p q = absurd (not_past value a.0 p q)
 only_one value Past Below p q = absurd (below_not_past value q p)

@@ -12,7 +12,7 @@ use Rattle.whole.proofs.Parts.{ints}
 pub record Between (g : ℕ → ℤ) (top : ℕ) (value : ℤ) (low high k : ℕ) : Type 0 where
   pub order : low < high
   pub within : high ≤ top
-  pub not-above : g low ≤ℤ value
+  pub not_above : g low ≤ℤ value
   pub above : value <ℤ g high
   pub near : high ≤ low + 2 ^ k
 
@@ -30,7 +30,7 @@ module _ {g : ℕ → ℤ} {top : ℕ} {value : ℤ} {low high k : ℕ} (b : Bet
   pub upper : g (middle low high) ≤ℤ value → Between g top value (middle low high) high (k - 1)
   upper t =
       let e = halving k h in
-      record { order = omega (arith, b.order); within = b.within; not-above = t; above = b.above; near = omega (arith, b.near, b.order) }
+      record { order = omega (arith, b.order); within = b.within; not_above = t; above = b.above; near = omega (arith, b.near, b.order) }
 
   pub lower : value <ℤ g (middle low high) → Between g top value low (middle low high) (k - 1)
   lower t =
@@ -38,7 +38,7 @@ module _ {g : ℕ → ℤ} {top : ℕ} {value : ℤ} {low high k : ℕ} (b : Bet
       record {
         order = by (dec_lt low (middle low high));
         within = omega (arith, b.within, b.order);
-        not-above = b.not-above;
+        not_above = b.not_above;
         above = t;
         near = omega (arith, b.near);
       }
@@ -48,7 +48,7 @@ module _ {g : ℕ → ℤ} {top : ℕ} {value : ℤ} {low high k : ℕ} (b : Bet
       by (no p) =
           let same : middle low high ≡ low = omega (arith, b.order) in
           let t' : value <ℤ g low = rw same at t in
-          absurd (omega (ints, b.not-above))
+          absurd (omega (ints, b.not_above))
 
 -- at the end the two places are neighbours
 pub neighbours : {g : ℕ → ℤ} {top : ℕ} {value : ℤ} {low high : ℕ} → Between g top value low high 0 → high ≡ suc low

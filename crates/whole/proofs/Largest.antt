@@ -11,7 +11,7 @@ use Rattle.whole.proofs.Rising.{under-later, not_falling}
 module _ (f : ℤ → ℤ) (first last value : ℤ) where
   -- of two largest steps neither is the later one
   not-later : (a b : ℤ) → Largest f first last value a → Largest f first last value b → a <ℤ b → ⊥
-  not-later a b p q h = omega (ints, p.above b h (omega (ints, q.to_last, add_parts last (pos 1))), q.not-above)
+  not-later a b p q h = omega (ints, p.above b h (omega (ints, q.to_last, add_parts last (pos 1))), q.not_above)
 
   pub largest-unique : (a b : ℤ) → Largest f first last value a → Largest f first last value b → a ≡ b
   largest-unique a b p q = by (dec_lt (up a + dn b) (up b + dn a)) (dec_lt (up b + dn a) (up a + dn b))
@@ -26,7 +26,7 @@ pub largest_mono : (f : ℤ → ℤ) (first last v v' a b : ℤ) → v ≤ℤ v'
 largest_mono f first last v v' a b h p q = by (dec_lt (up b + dn a) (up a + dn b))
   where
     by : Dec (up b + dn a < up a + dn b) → a ≤ℤ b
-    by (yes k) = absurd (omega (ints, h, p.not-above, q.above a (omega ints) (omega (ints, p.to_last, add_parts last (pos 1)))))
+    by (yes k) = absurd (omega (ints, h, p.not_above, q.above a (omega ints) (omega (ints, p.to_last, add_parts last (pos 1)))))
     by (no k) = omega ints
 
 -- of a function that rises from the first step to the one past the last
@@ -37,7 +37,7 @@ module _ (f : ℤ → ℤ) (first last : ℤ) (rise : (s : ℤ) → first ≤ℤ
       record {
         from_first = p;
         to_last = q;
-        not-above = n;
+        not_above = n;
         above = λ later h k. under-later f first (last +ℤ pos 1) rise value (s +ℤ pos 1) later (omega (ints, e)) a (omega (ints, e)) k;
       }
 
@@ -45,7 +45,7 @@ module _ (f : ℤ → ℤ) (first last : ℤ) (rise : (s : ℤ) → first ≤ℤ
   pub largest-not-below : (s : ℤ) → Largest f first last value s → value <ℤ f first → ⊥
   largest-not-below s l h =
       let e = add_parts last (pos 1) in
-      omega (ints, l.not-above, not_falling f first (last +ℤ pos 1) rise first s (omega ints) l.from_first (omega (ints, e, l.to_last)))
+      omega (ints, l.not_above, not_falling f first (last +ℤ pos 1) rise first s (omega ints) l.from_first (omega (ints, e, l.to_last)))
 
   pub largest-not-past : (s : ℤ) → Largest f first last value s → f (last +ℤ pos 1) ≤ℤ value → ⊥
   largest-not-past s l h =

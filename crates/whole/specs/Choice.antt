@@ -1,4 +1,4 @@
--- How definitions write a choice: `if test then this else that`.
+-- How definitions write a choice: `if test then this otherwise that`.
 use Rattle.std.specs.Prelude.{Bool, true, false}
 
 infix 1 if◌then◌otherwise◌

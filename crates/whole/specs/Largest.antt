@@ -6,5 +6,5 @@ use Rattle.std.specs.Prelude.{ℤ, pos, ◌+ℤ◌, ◌≤ℤ◌, ◌<ℤ◌}
 pub record Largest (f : ℤ → ℤ) (first last value step : ℤ) : Type 0 where
   pub from_first : first ≤ℤ step
   pub to_last : step ≤ℤ last
-  pub not-above : f step ≤ℤ value
+  pub not_above : f step ≤ℤ value
   pub above : (later : ℤ) → step <ℤ later → later ≤ℤ (last +ℤ pos 1) → value <ℤ f later

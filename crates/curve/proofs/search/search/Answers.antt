@@ -22,7 +22,7 @@ found : (value : ℤ) (low high : ℕ) → Between at 10_500_001 value low high 
 found value low high b =
     let e = neighbours b in
     let h : value <ℤ exact (step_at (low + 1)) = rw (e, ← add-one low) at b.above in
-    largest-by-next exact first last one_up value (step_at low) (from_first low) (to_last low (omega (arith, b.within))) b.not-above (rw (next_place low) h)
+    largest-by-next exact first last one_up value (step_at low) (from_first low) (to_last low (omega (arith, b.within))) b.not_above (rw (next_place low) h)
 
 pub returns : goal.returns
 returns c =

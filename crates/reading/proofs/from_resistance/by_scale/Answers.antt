@@ -35,8 +35,8 @@ returns-then-less c =
     let e = add_parts top (pos 1) in
     by-subrange [] c.args.subrange value (refused no_step 9)
     (reads_past (Scale c.args.subrange) working (pos 0) top value
-    (omega (ints, f.not-above, not_falling (pos 0) step (omega ints) f.from_first (omega (ints, f.to_last))))
-    (omega (ints, f.not-above, not_falling (top +ℤ pos 1) step (omega (ints, t, e)) (omega (ints, later, e)) (omega (ints, f.to_last)))))
+    (omega (ints, f.not_above, not_falling (pos 0) step (omega ints) f.from_first (omega (ints, f.to_last))))
+    (omega (ints, f.not_above, not_falling (top +ℤ pos 1) step (omega (ints, t, e)) (omega (ints, later, e)) (omega (ints, f.to_last)))))
 
 pub returns-in-Past : goal.returns-in-Past
 returns-in-Past c =
@@ -65,11 +65,11 @@ returns-else-less c =
     let e = add_parts top (pos 1) in
     by-subrange [] c.args.subrange value (answered (record { law = some (Scale c.args.subrange); step = step }))
     (reads-step (Scale c.args.subrange) working (pos 0) top value step
-    (omega (ints, f.not-above, not_falling (pos 0) step (omega ints) f.from_first (omega (ints, f.to_last))))
+    (omega (ints, f.not_above, not_falling (pos 0) step (omega ints) f.from_first (omega (ints, f.to_last))))
     (f.above (top +ℤ pos 1) (omega (ints, within, e)) (omega (ints, t, e)))
     (record {
       from_first = f.from_first;
       to_last = within;
-      not-above = f.not-above;
+      not_above = f.not_above;
       above = λ later h b. f.above later h (omega (ints, b, t, e));
     }))

@@ -21,7 +21,7 @@ found : (value : ℤ) (low high : ℕ) → Between at 9_617_801 value low high 0
 found value low high b =
     let e = neighbours b in
     let f : pos high ≡ pos low +ℤ pos 1 = omega (ints, add_parts (pos low) (pos 1)) in
-    largest-by-next working (pos 0) last one_up value (pos low) (omega ints) (omega (ints, b.within)) b.not-above (rw f at b.above)
+    largest-by-next working (pos 0) last one_up value (pos low) (omega ints) (omega (ints, b.within)) b.not_above (rw f at b.above)
 
 pub returns : goal.returns
 returns c = let z : c.loop-left.left ≡ 0 = omega arith in
