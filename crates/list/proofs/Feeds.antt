@@ -4,10 +4,9 @@ use mathlib.Core.Bool.{Bool, true, false, not}
 use mathlib.Core.List.{List, [], ◌∷◌, ◌++◌, append_assoc, append-nil}
 use native.Mathlib.Omega.{arith}
 use Prim.Native.Nat.{ℕ, ◌+◌, ◌-◌, ◌≤◌, ◌<◌}
-use native.Mathlib.Decide.{dec_lt}
 use lib.Dec.{leb}
 use lib.ListN.{length, get_or, take, drop, length-append, length-drop, take-append-drop, drop_of_length-le}
-use lib.Seq.{length-take-le, take_all, take-add, get_or-take, get_or-drop, drop-drop, take-append_seam, drop-append_seam}
+use lib.Seq.{length-take-le, take_all, get_or-take, drop-drop, take-append_seam, drop-append_seam}
 use borrow.Author.Tests.{leb-true, leb-false, lt-ltb, le-ltb}
 use borrow.Rule.Slice.PartMut.{put_mid}
 use Rattle.whole.specs.Choice.{if◌then◌otherwise◌}
@@ -27,7 +26,7 @@ use Rattle.list.specs.Tallies.{is_refused, is_faulty, one_if, how_many, tally_of
 use Rattle.list.specs.Feeding.{Due, next, DueToAll, DueAtEnd, line_of, code_of, Full, FedAs}
 use Rattle.lines.specs.Ends.{EndsAt}
 use Rattle.list.specs.Replies.{RepliedAs, Standing, At, HeldAs}
-use Rattle.lines.proofs.Lines.{front_take, ends_some, ended-append, begun-append, ended-one, begun-none, ended-before, begun-before, ends-here, begun-with, ended-with}
+use Rattle.lines.proofs.Lines.{front_take, ends_some, ended-one, begun-none, ended-before, begun-before, ends-here, begun-with, ended-with}
 use Rattle.lines.proofs.Capped.{capped-ends, capped-alike, alike_sym}
 use Rattle.list.proofs.Capped.{capped-front, capped-next, front_due}
 use Rattle.list.proofs.Dues.{due_more}

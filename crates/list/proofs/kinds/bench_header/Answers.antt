@@ -1,0 +1,23 @@
+use mathlib.Core.Path.{sym, ◌∙◌}
+use Rattle.list.specs.Kinds.{headed}
+use Rattle.list.proofs.kinds.bench_header.Goals as goal
+
+pub returns-then-same_bytes : goal.returns-then-same_bytes
+unfolding headed
+returns-then-same_bytes c = rw (sym c.same_bytes.ensures ∙ c.if-same_bytes.true)
+
+pub returns-then-same_bytes-2 : goal.returns-then-same_bytes-2
+unfolding headed
+returns-then-same_bytes-2 c = rw (sym c.same_bytes.ensures ∙ c.if-same_bytes.false, sym c.same_bytes-2.ensures ∙ c.if-same_bytes-2.true)
+
+pub returns-then-same_bytes-3 : goal.returns-then-same_bytes-3
+unfolding headed
+returns-then-same_bytes-3 c = rw (sym c.same_bytes.ensures ∙ c.if-same_bytes.false, sym c.same_bytes-2.ensures ∙ c.if-same_bytes-2.false, sym c.same_bytes-3.ensures ∙ c.if-same_bytes-3.true)
+
+pub returns-then-same_bytes-4 : goal.returns-then-same_bytes-4
+unfolding headed
+returns-then-same_bytes-4 c = rw (sym c.same_bytes.ensures ∙ c.if-same_bytes.false, sym c.same_bytes-2.ensures ∙ c.if-same_bytes-2.false, sym c.same_bytes-3.ensures ∙ c.if-same_bytes-3.false, sym c.same_bytes-4.ensures ∙ c.if-same_bytes-4.true)
+
+pub returns : goal.returns
+unfolding headed
+returns c = rw (sym c.same_bytes.ensures ∙ c.if-same_bytes.false, sym c.same_bytes-2.ensures ∙ c.if-same_bytes-2.false, sym c.same_bytes-3.ensures ∙ c.if-same_bytes-3.false, sym c.same_bytes-4.ensures ∙ c.if-same_bytes-4.false)
