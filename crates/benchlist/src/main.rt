@@ -6,23 +6,24 @@ mod page;
 use list::Desk;
 use turns::Asked;
 
-fn main() {
-    match turns::what_is_asked() {
+fn main(rt: HostRuntime) {
+    let output = rt.stdout();
+    let people = rt.stderr();
+    match turns::what_is_asked(&rt) {
         Asked::List => {
-            turns::answer(Desk::Bench);
+            turns::answer(&mut rt.stdin(), &output, &people, Desk::Bench);
         }
-        Asked::ListAndStatus => turns::answer_and_say(Desk::Bench),
+        Asked::ListAndStatus => {
+            turns::answer_and_say(&mut rt.stdin(), &output, &people, Desk::Bench);
+        }
         Asked::Page => {
-            if !page::print(libc::STDOUT_FILENO) {
-                os::fail(b"benchlist: standard output");
+            if let Err(why) = page::print(&output) {
+                turns::output_failed(&people, Desk::Bench, &why);
             }
         }
         Asked::Other => {
-            io::write_all(
-                libc::STDERR_FILENO,
-                b"benchlist: it takes no argument but --help or --status\n\n",
-            );
-            page::print(libc::STDERR_FILENO);
+            let _ = people.write_all(b"benchlist: it takes no argument but --help or --status\n\n");
+            let _ = page::print(&people);
         }
     }
 }

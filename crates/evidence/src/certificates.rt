@@ -38,10 +38,10 @@ pub fn law_text(line: &mut [u8], from: usize, law: Law) -> usize {
     }
 }
 
-pub fn say_law(law: Law) {
+pub fn say_law(out: &impl Print, law: Law) {
     let mut name = [0u8; 6];
     let len = law_text(&mut name, 0, law);
-    print(&name, len);
+    print(out, &name, len);
 }
 
 pub fn places_text(

@@ -29,7 +29,7 @@ fn leading_power(n: u64) -> u64 {
     1
 }
 
-fn number(line: &mut [u8], at: usize, n: u64) -> usize {
+pub(crate) fn number(line: &mut [u8], at: usize, n: u64) -> usize {
     let mut next = at;
     let mut power = leading_power(n);
     while 0 < power {

@@ -3,7 +3,6 @@ ghost use Rattle.std.specs.Prelude.{◌≡◌, length};
 
 use crate::generator::Generator;
 use crate::printing::{natural, text};
-use libc::STDOUT_FILENO;
 
 // The generator after a case, and the length of the case's line.
 #[derive(Clone, Copy)]
@@ -32,20 +31,20 @@ fn digested(digest: u64, byte: u8) -> u64 {
 }
 
 // The bytes that a line has so far.
-pub fn print(line: &[u8], len: usize) {
+pub fn print(out: &impl Print, line: &[u8], len: usize) {
     if len <= line.len() {
-        io::write_all(STDOUT_FILENO, &line[..len]);
+        let _ = out.write_all(&line[..len]);
     }
 }
 
-fn print_digest(family: &[u8], cases: u64, digest: u64) {
+fn print_digest(out: &impl Print, family: &[u8], cases: u64, digest: u64) {
     let mut line = [0u8; 80];
     let mut at = text(&mut line, 0, b"digest ");
     at = text(&mut line, at, family);
     at = natural(&mut line, at, cases);
     at = natural(&mut line, at, digest);
     at = text(&mut line, at, b"\n");
-    print(&line, at);
+    print(out, &line, at);
 }
 
 // The first forty cases of a family, and each hundredth.
@@ -62,7 +61,7 @@ impl Report {
     }
 
     // Takes in a case's line, its LF included: prints it where it is one of those printed, and the block's digest where it ends one.
-    pub fn case(self, family: &[u8], line: &[u8], len: usize) -> Report {
+    pub fn case(self, out: &impl Print, family: &[u8], line: &[u8], len: usize) -> Report {
         let mut digest = self.digest;
         let mut i = 0;
         while i < line.len() {
@@ -72,11 +71,11 @@ impl Report {
             i += 1;
         }
         if is_printed(self.cases) {
-            print(line, len);
+            print(out, line, len);
         }
         let cases = self.cases % 1_000_000_000 + 1;
         if cases % 1000 == 0 {
-            print_digest(family, cases, digest);
+            print_digest(out, family, cases, digest);
             return Report { cases, digest: 0 };
         }
         Report { cases, digest }

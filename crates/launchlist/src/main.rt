@@ -6,23 +6,26 @@ mod page;
 use list::Desk;
 use turns::Asked;
 
-fn main() {
-    match turns::what_is_asked() {
+fn main(rt: HostRuntime) {
+    let output = rt.stdout();
+    let people = rt.stderr();
+    match turns::what_is_asked(&rt) {
         Asked::List => {
-            turns::answer(Desk::Launch);
+            turns::answer(&mut rt.stdin(), &output, &people, Desk::Launch);
         }
-        Asked::ListAndStatus => turns::answer_and_say(Desk::Launch),
+        Asked::ListAndStatus => {
+            turns::answer_and_say(&mut rt.stdin(), &output, &people, Desk::Launch);
+        }
         Asked::Page => {
-            if !page::print(libc::STDOUT_FILENO) {
-                os::fail(b"launchlist: standard output");
+            if let Err(why) = page::print(&output) {
+                turns::output_failed(&people, Desk::Launch, &why);
             }
         }
         Asked::Other => {
-            io::write_all(
-                libc::STDERR_FILENO,
+            let _ = people.write_all(
                 b"launchlist: it takes no argument but --help or --status\n\n",
             );
-            page::print(libc::STDERR_FILENO);
+            let _ = page::print(&people);
         }
     }
 }

@@ -348,7 +348,7 @@ fn one_case(i: u64, g: Generator, table: [Entry; 4], line: &mut [u8]) -> Done {
     }
 }
 
-fn main() {
+fn main(rt: HostRuntime) {
     let mut line = evidence::empty_line();
     let mut g = Generator::new(601);
     let mut report = Report::new();
@@ -359,7 +359,7 @@ fn main() {
         let after = done.table;
         g = done.generator;
         table = after;
-        report = report.case(b"acts", &line, done.len);
+        report = report.case(&rt, b"acts", &line, done.len);
         i += 1;
     }
 }

@@ -53,56 +53,56 @@ fn step_of(i: u64) -> i64
 }
 
 // What the published resistance reads.
-fn reading(r: Nanoohm) {
-    say(b" reads");
+fn reading(out: &impl Print, r: Nanoohm) {
+    say(out, b" reads");
     match curve::read_by(r, Nanoohm(R0)) {
         ReadingAnswer::Read(reading) => {
             let step = reading.step;
-            say_signed(step.0, DEGREE)
+            say_signed(out, step.0, DEGREE)
         }
-        ReadingAnswer::Refused(why) => say_refused(why.number() as u64),
+        ReadingAnswer::Refused(why) => say_refused(out, why.number() as u64),
     }
 }
 
 // The curve's ratio and its ohms beside the published ones, and what those read.
-fn ratio_beside(ohms: u64, r: Nanoohm, w: u64, tally: Tally) -> Tally {
+fn ratio_beside(out: &impl Print, ohms: u64, r: Nanoohm, w: u64, tally: Tally) -> Tally {
     // To the nearest hundredth and half up: in half hundredths first, so that no ratio is too large to add to.
     let worked = (w / 50_000 + 1) / 2;
-    say_natural(w, 1_000_000_000);
-    say_natural(worked, 100);
-    let after = tally.verdict(worked == ohms);
-    reading(r);
+    say_natural(out, w, 1_000_000_000);
+    say_natural(out, worked, 100);
+    let after = tally.verdict(out, worked == ohms);
+    reading(out, r);
     after
 }
 
-fn resistance(i: u64, tally: Tally) -> Tally
+fn resistance(out: &impl Print, i: u64, tally: Tally) -> Tally
     requires { i < 106 }
 {
     let at = i as usize;
     let ohms = wide(OHMS[at]);
     let r = Nanoohm(ohms * 10_000_000);
     let step = step_of(i);
-    say(b"iec");
-    say_signed(whole::floor_by(step, DEGREE), ONE);
-    say_natural(ohms, 100);
+    say(out, b"iec");
+    say_signed(out, whole::floor_by(step, DEGREE), ONE);
+    say_natural(out, ohms, 100);
     match curve::forward(Celsius(step)) {
         ForwardAnswer::At(forward) => {
             let w = forward.ratio;
-            ratio_beside(ohms, r, w.0, tally)
+            ratio_beside(out, ohms, r, w.0, tally)
         }
         ForwardAnswer::Refused(why) => {
-            say_refused(why.number() as u64);
+            say_refused(out, why.number() as u64);
             tally
         }
     }
 }
 
-pub fn resistances(before: Tally) -> Tally {
+pub fn resistances(out: &impl Print, before: Tally) -> Tally {
     let mut tally = before;
     let mut i: u64 = 0;
     while i < 106 {
-        tally = resistance(i, tally);
-        say(b"\n");
+        tally = resistance(out, i, tally);
+        say(out, b"\n");
         i += 1;
     }
     tally
@@ -196,12 +196,12 @@ fn largest_error(class: u8, bath: i64) -> u64
 }
 
 // The class, the bath, the printed limit and the largest error that passes.
-fn limits(class: u8, bath: i64, limit: u64, error: u64) {
+fn limits(out: &impl Print, class: u8, bath: i64, limit: u64, error: u64) {
     let letter = [b' ', class];
-    say(&letter);
-    say_signed(whole::floor_by(bath, DEGREE), ONE);
-    say_natural(limit, 100);
-    say_natural(error, DEGREE);
+    say(out, &letter);
+    say_signed(out, whole::floor_by(bath, DEGREE), ONE);
+    say_natural(out, limit, 100);
+    say_natural(out, error, DEGREE);
 }
 
 // An error to the printed decimals, half up, in hundredths of a degree: class A has hundredths and class B tenths.
@@ -214,7 +214,7 @@ fn as_printed(class: u8, error: u64) -> u64
     (error + 500) / 1000 * 10
 }
 
-fn tolerance(i: u64, tally: Tally) -> Tally
+fn tolerance(out: &impl Print, i: u64, tally: Tally) -> Tally
     requires { i < 23 }
 {
     let at = i as usize;
@@ -223,17 +223,17 @@ fn tolerance(i: u64, tally: Tally) -> Tally
     let t = bath(i);
     let error = largest_error(class, t);
     let agrees = as_printed(class, error) == limit;
-    say(b"tolerance");
-    limits(class, t, limit, error);
-    tally.verdict(agrees)
+    say(out, b"tolerance");
+    limits(out, class, t, limit, error);
+    tally.verdict(out, agrees)
 }
 
-pub fn tolerances(before: Tally) -> Tally {
+pub fn tolerances(out: &impl Print, before: Tally) -> Tally {
     let mut tally = before;
     let mut i: u64 = 0;
     while i < 23 {
-        tally = tolerance(i, tally);
-        say(b"\n");
+        tally = tolerance(out, i, tally);
+        say(out, b"\n");
         i += 1;
     }
     tally
@@ -241,19 +241,19 @@ pub fn tolerances(before: Tally) -> Tally {
 
 // ---- slips
 
-fn slip(class: u8, bath: i64, limit: u64)
+fn slip(out: &impl Print, class: u8, bath: i64, limit: u64)
     requires { (unsigned_abs bath < 2 ^ 24) × (limit < 2 ^ 16) }
 {
     let error = largest_error(class, bath);
-    say(b"slip");
-    limits(class, bath, limit, error);
-    say_difference(limit * 100, error, DEGREE);
-    say(b"\n");
+    say(out, b"slip");
+    limits(out, class, bath, limit, error);
+    say_difference(out, limit * 100, error, DEGREE);
+    say(out, b"\n");
 }
 
 // Tolerances that the paper which names the edition prints otherwise.
-pub fn slips() {
-    slip(b'A', -200_0000, 0_50);
-    slip(b'A', 650_0000, 1_50);
-    slip(b'B', 850_0000, 4_75);
+pub fn slips(out: &impl Print) {
+    slip(out, b'A', -200_0000, 0_50);
+    slip(out, b'A', 650_0000, 1_50);
+    slip(out, b'B', 850_0000, 4_75);
 }

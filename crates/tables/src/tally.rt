@@ -11,26 +11,26 @@ pub struct Tally {
 
 impl Tally {
     // Writes a verdict and counts it.
-    pub fn verdict(self, agrees: bool) -> Tally {
+    pub fn verdict(self, out: &impl Print, agrees: bool) -> Tally {
         if agrees {
-            say(b" agrees");
+            say(out, b" agrees");
             return Tally {
                 agree: wrapping_add_u64(self.agree, 1),
                 differ: self.differ,
             };
         }
-        say(b" differs");
+        say(out, b" differs");
         Tally {
             agree: self.agree,
             differ: wrapping_add_u64(self.differ, 1),
         }
     }
 
-    pub fn print(self) {
-        say(b"tables:");
-        say_natural(self.agree, ONE);
-        say(b" agree,");
-        say_natural(self.differ, ONE);
-        say(b" differ\n");
+    pub fn print(self, out: &impl Print) {
+        say(out, b"tables:");
+        say_natural(out, self.agree, ONE);
+        say(out, b" agree,");
+        say_natural(out, self.differ, ONE);
+        say(out, b" differ\n");
     }
 }

@@ -44,41 +44,49 @@ pub fn fault_on(kind: Kind, line: &[u8]) -> Faulty {
     fault_of(line, columns_of(kind), count_of(kind))
 }
 
-fn say_title_in(bytes: [u8; MOST_KEPT], count: usize, number: usize) -> bool
+fn say_title_in(people: &impl Print, bytes: [u8; MOST_KEPT], count: usize, number: usize) -> bool
     requires { count ≤ 128 }
 {
     let titles = &bytes[..count];
     let from = field_start(titles, number);
     let end = field_end(titles, from);
-    say(&titles[from..end])
+    say(people, &titles[from..end])
 }
 
-fn say_title(kind: Kind, number: usize) -> bool {
+fn say_title(people: &impl Print, kind: Kind, number: usize) -> bool {
     let header = header_of(kind);
     let bytes = header.bytes;
-    say_title_in(bytes, header.length(), number)
+    say_title_in(people, bytes, header.length(), number)
 }
 
-fn say_too_long() -> bool {
-    say(b"it has more than ") & say_count(LONGEST_LINE as u64) & say(b" bytes\n")
+fn say_too_long(people: &impl Print) -> bool {
+    say(people, b"it has more than ")
+        & say_count(people, LONGEST_LINE as u64)
+        & say(people, b" bytes\n")
 }
 
-fn say_wrong_count(fields: u64, columns: u64) -> bool {
-    let counted = say(b"it has ") & say_count(fields);
+fn say_wrong_count(people: &impl Print, fields: u64, columns: u64) -> bool {
+    let counted = say(people, b"it has ") & say_count(people, fields);
     if fields == 1 {
-        return counted & say(b" field, and the header has ") & say_count(columns) & say(b"\n");
+        return counted
+            & say(people, b" field, and the header has ")
+            & say_count(people, columns)
+            & say(people, b"\n");
     }
-    counted & say(b" fields, and the header has ") & say_count(columns) & say(b"\n")
+    counted
+        & say(people, b" fields, and the header has ")
+        & say_count(people, columns)
+        & say(people, b"\n")
 }
 
-fn say_broken(kind: Kind, line: &[u8], number: usize) -> bool {
+fn say_broken(people: &impl Print, kind: Kind, line: &[u8], number: usize) -> bool {
     let from = field_start(line, number);
     let end = field_end(line, from);
-    let said = say(b"field ")
-        & say_count(number as u64)
-        & say(b", ")
-        & say_title(kind, number)
-        & say(b": ");
+    let said = say(people, b"field ")
+        & say_count(people, number as u64)
+        & say(people, b", ")
+        & say_title(people, kind, number)
+        & say(people, b": ");
     // A fault names a column, so neither is ever so.
     if number == 0 {
         return said;
@@ -87,13 +95,13 @@ fn say_broken(kind: Kind, line: &[u8], number: usize) -> bool {
         return said;
     }
     let columns = columns_of(kind);
-    said & say_why(columns[number - 1], &line[from..end])
+    said & say_why(people, columns[number - 1], &line[from..end])
 }
 
-pub fn say_fault(kind: Kind, line: &[u8], fault: Fault) -> bool {
+pub fn say_fault(people: &impl Print, kind: Kind, line: &[u8], fault: Fault) -> bool {
     match fault {
-        Fault::TooLong => say_too_long(),
-        Fault::WrongCount => say_wrong_count(fields_in(line), count_of(kind) as u64),
-        Fault::Broken(number) => say_broken(kind, line, number),
+        Fault::TooLong => say_too_long(people),
+        Fault::WrongCount => say_wrong_count(people, fields_in(line), count_of(kind) as u64),
+        Fault::Broken(number) => say_broken(people, kind, line, number),
     }
 }

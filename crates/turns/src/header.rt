@@ -17,24 +17,24 @@ pub fn header_of(kind: Kind) -> Kept {
     }
 }
 
-fn say_header(kind: Kind) -> bool {
+fn say_header(people: &impl Print, kind: Kind) -> bool {
     let header = header_of(kind);
-    say_line(header, header.length());
-    say(b"\n")
+    say_line(people, header, header.length());
+    say(people, b"\n")
 }
 
-fn say_expected(desk: Desk) -> bool {
+fn say_expected(people: &impl Print, desk: Desk) -> bool {
     match desk {
-        Desk::Launch => say(b"  expected: ") & say_header(Kind::Readings),
+        Desk::Launch => say(people, b"  expected: ") & say_header(people, Kind::Readings),
         Desk::Bench => {
-            say(b"  expected: ")
-                & say_header(Kind::Records)
-                & say(b"        or: ")
-                & say_header(Kind::Resistances)
-                & say(b"        or: ")
-                & say_header(Kind::Steps)
-                & say(b"        or: ")
-                & say_header(Kind::Tolerances)
+            say(people, b"  expected: ")
+                & say_header(people, Kind::Records)
+                & say(people, b"        or: ")
+                & say_header(people, Kind::Resistances)
+                & say(people, b"        or: ")
+                & say_header(people, Kind::Steps)
+                & say(people, b"        or: ")
+                & say_header(people, Kind::Tolerances)
         }
     }
 }
@@ -67,11 +67,11 @@ fn line_length(first: Kept) -> usize {
     i
 }
 
-fn say_line(first: Kept, length: usize) {
+fn say_line(people: &impl Print, first: Kept, length: usize) {
     let mut i = 0;
     while i < length {
         let one = [shown(first.at(i))];
-        say(&one);
+        say(people, &one);
         i += 1;
     }
 }
@@ -102,29 +102,37 @@ fn is_wide(first: Kept) -> bool {
     a == 0xff && b == 0xfe || a == 0xfe && b == 0xff
 }
 
-fn say_reason(first: Kept, length: usize) -> bool {
+fn say_reason(people: &impl Print, first: Kept, length: usize) -> bool {
     if first.count == 0 {
-        return say(b"  the input is empty\n");
+        return say(people, b"  the input is empty\n");
     }
     if begins_by_mark(first) {
         return say(
+            people,
             b"  it begins with a byte order mark: save the list as plain text, without one\n",
         );
     }
     if is_wide(first) {
-        return say(b"  it is UTF-16: save the list as plain text (ASCII or UTF-8)\n");
+        return say(
+            people,
+            b"  it is UTF-16: save the list as plain text (ASCII or UTF-8)\n",
+        );
     }
     if has(first, length, b'"') {
-        return say(b"  it has quotes: save the list without them\n");
+        return say(people, b"  it has quotes: save the list without them\n");
     }
     if has(first, length, b';') {
-        return say(b"  it has semicolons: separate the fields by commas\n");
+        return say(
+            people,
+            b"  it has semicolons: separate the fields by commas\n",
+        );
     }
     if has(first, length, b' ') {
-        return say(b"  it has blanks: write the header without them\n");
+        return say(people, b"  it has blanks: write the header without them\n");
     }
     if ends_by_feed_alone(first, length) {
         return say(
+            people,
             b"  its lines end with LF alone, and CRLF is wanted: sed 's/\\r*$/\\r/;$a\\' LIST\n",
         );
     }
@@ -132,13 +140,16 @@ fn say_reason(first: Kept, length: usize) -> bool {
 }
 
 // Says what is wrong with the header that an input began with.
-pub fn say_wrong(desk: Desk, first: Kept) {
+pub fn say_wrong(people: &impl Print, desk: Desk, first: Kept) {
     let length = line_length(first);
-    say_name(desk);
-    say(b"the first line is not the header of a list that it answers\n");
-    say(b"  read:     ");
-    say_line(first, length);
-    say(b"\n");
-    say_expected(desk);
-    say_reason(first, length);
+    say_name(people, desk);
+    say(
+        people,
+        b"the first line is not the header of a list that it answers\n",
+    );
+    say(people, b"  read:     ");
+    say_line(people, first, length);
+    say(people, b"\n");
+    say_expected(people, desk);
+    say_reason(people, first, length);
 }

@@ -49,4 +49,11 @@ impl Kept {
         }
         MOST_KEPT
     }
+
+    pub fn as_slice(&self) -> &[u8] {
+        if self.count <= MOST_KEPT {
+            return &self.bytes[..self.count];
+        }
+        &self.bytes
+    }
 }

@@ -8,6 +8,7 @@ mod fields;
 mod header;
 mod kept;
 mod people;
+mod reason;
 mod reasons;
 mod remarks;
 mod rows;
@@ -16,5 +17,6 @@ mod turns;
 mod words;
 
 pub use asked::{Asked, what_is_asked};
+pub use people::output_failed;
 pub use status::answer_and_say;
 pub use turns::answer;

@@ -37,72 +37,72 @@ fn first_other(held: Holds, field: &[u8]) -> usize
     i
 }
 
-fn say_other_byte(b: u8) -> bool {
+fn say_other_byte(people: &impl Print, b: u8) -> bool {
     if is_digit(b) {
-        return say(b"a digit\n");
+        return say(people, b"a digit\n");
     }
     if between(b, b'A', b'Z') {
-        return say(b"a capital letter\n");
+        return say(people, b"a capital letter\n");
     }
     if between(b, b'a', b'z') {
-        return say(b"a small letter\n");
+        return say(people, b"a small letter\n");
     }
     if b > 127 {
-        return say(b"a byte that is not ASCII\n");
+        return say(people, b"a byte that is not ASCII\n");
     }
-    say(b"a byte that may not stand there\n")
+    say(people, b"a byte that may not stand there\n")
 }
 
-fn say_byte(b: u8) -> bool {
+fn say_byte(people: &impl Print, b: u8) -> bool {
     match b {
-        b'.' => say(b"a point\n"),
-        b' ' => say(b"a blank\n"),
-        b'"' => say(b"a quote\n"),
-        b';' => say(b"a semicolon\n"),
-        b'+' => say(b"a plus\n"),
-        b'-' => say(b"a minus\n"),
-        b'_' => say(b"an underscore\n"),
-        b'\t' => say(b"a tab\n"),
-        b'\r' => say(b"a CR\n"),
-        _ => say_other_byte(b),
+        b'.' => say(people, b"a point\n"),
+        b' ' => say(people, b"a blank\n"),
+        b'"' => say(people, b"a quote\n"),
+        b';' => say(people, b"a semicolon\n"),
+        b'+' => say(people, b"a plus\n"),
+        b'-' => say(people, b"a minus\n"),
+        b'_' => say(people, b"an underscore\n"),
+        b'\t' => say(people, b"a tab\n"),
+        b'\r' => say(people, b"a CR\n"),
+        _ => say_other_byte(people, b),
     }
 }
 
-fn say_more_than(most: usize, what: &[u8]) -> bool {
-    say(b"more than ") & say_count(most as u64) & say(what)
+fn say_more_than(people: &impl Print, most: usize, what: &[u8]) -> bool {
+    say(people, b"more than ") & say_count(people, most as u64) & say(people, what)
 }
 
 // Of digits alone that are no number of at most so many: what is left is a 0 after a minus.
-fn say_of_digits(digits: &[u8], most: usize) -> bool {
+fn say_of_digits(people: &impl Print, digits: &[u8], most: usize) -> bool {
     if digits.len() > 1 {
         if digits[0] == b'0' {
-            return say(b"a leading zero\n");
+            return say(people, b"a leading zero\n");
         }
     }
     if digits.len() > most {
-        return say_more_than(most, b" digits\n");
+        return say_more_than(people, most, b" digits\n");
     }
-    say(b"a minus before 0\n")
+    say(people, b"a minus before 0\n")
 }
 
 // Of a field of bytes that may all stand in it.
-fn say_of_size(held: Holds, field: &[u8]) -> bool {
+fn say_of_size(people: &impl Print, held: Holds, field: &[u8]) -> bool {
     match held {
-        Holds::Id => say_more_than(LONGEST_ID, b" bytes\n"),
-        Holds::Name => say_more_than(LONGEST_NAME, b" letters\n"),
-        Holds::Letter => say(b"more than one letter\n"),
-        Holds::Natural(most) => say_of_digits(field, most),
-        Holds::Signed(most) => say_of_digits(field, most),
+        Holds::Id => say_more_than(people, LONGEST_ID, b" bytes\n"),
+        Holds::Name => say_more_than(people, LONGEST_NAME, b" letters\n"),
+        Holds::Letter => say(people, b"more than one letter\n"),
+        Holds::Natural(most) => say_of_digits(people, field, most),
+        Holds::Signed(most) => say_of_digits(people, field, most),
     }
 }
 
 // Of a field that is not empty, without the minus that it may have.
-fn say_of_content(held: Holds, field: &[u8]) -> bool {
+fn say_of_content(people: &impl Print, held: Holds, field: &[u8]) -> bool {
     let i = first_other(held, field);
     if i < field.len() {
-        return say_byte(field[i]);
+        return say_byte(people, field[i]);
     }
-    say_of_size(held, field)
+    say_of_size(people, held, field)
 }
 
 fn takes_minus(held: Holds) -> bool {
@@ -113,17 +113,17 @@ fn takes_minus(held: Holds) -> bool {
 }
 
 // Says why a field that breaks its rule does.
-pub fn say_why(held: Holds, field: &[u8]) -> bool {
+pub fn say_why(people: &impl Print, held: Holds, field: &[u8]) -> bool {
     if field.len() == 0 {
-        return say(b"it is empty\n");
+        return say(people, b"it is empty\n");
     }
     if takes_minus(held) {
         if field[0] == b'-' {
             if field.len() == 1 {
-                return say(b"a minus alone\n");
+                return say(people, b"a minus alone\n");
             }
-            return say_of_content(held, &field[1..]);
+            return say_of_content(people, held, &field[1..]);
         }
     }
-    say_of_content(held, field)
+    say_of_content(people, held, field)
 }

@@ -3,11 +3,11 @@
 ghost use Rattle.std.specs.Prelude.{◌≤◌};
 ghost use Rattle.lines.specs.Held.{most_held};
 
-use crate::people::on_terminal;
 use crate::remarks::{Remark, remark_on};
 use crate::words::{say_counts, say_more, say_of_line};
 use lines::MOST_HELD;
 use list::{Desk, Kind, Stage, State, Tally};
+use std::io::IsTerminal;
 
 // Of so many lines something is said.
 const MOST_SAID: u64 = 100;
@@ -74,7 +74,7 @@ impl Counts {
     }
 
     // Says what is to be said of the next line, and counts it.
-    fn say_next(self, desk: Desk, kind: Kind, line: &[u8]) -> Counts {
+    fn say_next(self, people: &impl Print, desk: Desk, kind: Kind, line: &[u8]) -> Counts {
         let counted = self.and(1, 0);
         let said = self.said;
         if said > MOST_SAID {
@@ -85,9 +85,9 @@ impl Counts {
             return counted;
         }
         if said == MOST_SAID {
-            say_more(desk, MOST_SAID);
+            say_more(people, desk, MOST_SAID);
         } else {
-            say_of_line(desk, counted.lines, kind, line, remark);
+            say_of_line(people, desk, counted.lines, kind, line, remark);
         }
         Counts {
             lines: counted.lines,
@@ -97,15 +97,22 @@ impl Counts {
     }
 
     // Of the first line of these; a header is only counted.
-    fn say_first(self, desk: Desk, kind: Kind, stage: Stage, line: &[u8]) -> Counts {
+    fn say_first(
+        self,
+        people: &impl Print,
+        desk: Desk,
+        kind: Kind,
+        stage: Stage,
+        line: &[u8],
+    ) -> Counts {
         if is_header(stage) {
             return self.and(1, 0);
         }
-        self.say_next(desk, kind, line)
+        self.say_next(people, desk, kind, line)
     }
 
     // Of each line that ends in the bytes after another one's end.
-    fn say_whole(self, desk: Desk, kind: Kind, part: &[u8]) -> Counts {
+    fn say_whole(self, people: &impl Print, desk: Desk, kind: Kind, part: &[u8]) -> Counts {
         let mut counts = self;
         let mut from = 0;
         while from < part.len() {
@@ -113,14 +120,21 @@ impl Counts {
             if end >= part.len() - from {
                 return counts;
             }
-            counts = counts.say_next(desk, kind, &part[from..from + (end - 1)]);
+            counts = counts.say_next(people, desk, kind, &part[from..from + (end - 1)]);
             from += end + 1;
         }
         counts
     }
 
     // Of each line that ends in these bytes, which were fed from a state.
-    fn say_lines(self, desk: Desk, kind: Kind, state: State, part: &[u8]) -> Counts {
+    fn say_lines(
+        self,
+        people: &impl Print,
+        desk: Desk,
+        kind: Kind,
+        state: State,
+        part: &[u8],
+    ) -> Counts {
         let stage = state.stage;
         let mut held = state.held;
         let begun = list::held_count(state.count);
@@ -133,13 +147,14 @@ impl Counts {
         if count == 0 {
             return self;
         }
-        let first = self.say_first(desk, kind, stage, &held[..count - 1]);
-        first.say_whole(desk, kind, &part[end + 1..])
+        let first = self.say_first(people, desk, kind, stage, &held[..count - 1]);
+        first.say_whole(people, desk, kind, &part[end + 1..])
     }
 
     // With the lines that a feeding answered, of which it says what is to be said: `before` is the state before it, `part` the bytes that it used.
     pub fn after_feeding(
         self,
+        people: &impl Print,
         desk: Desk,
         before: State,
         part: &[u8],
@@ -156,7 +171,7 @@ impl Counts {
                 if !is_due(kind, tally) {
                     return counted;
                 }
-                let told = self.say_lines(desk, kind, before, part);
+                let told = self.say_lines(people, desk, kind, before, part);
                 Counts {
                     lines: counted.lines,
                     refused: counted.refused,
@@ -168,7 +183,7 @@ impl Counts {
     }
 
     // With the last line, which no CRLF ended, where there is one.
-    pub fn after_end(self, desk: Desk, state: State, code: u8) -> Counts {
+    pub fn after_end(self, people: &impl Print, desk: Desk, state: State, code: u8) -> Counts {
         let held = state.held;
         let stage = state.stage;
         let count = list::held_count(state.count);
@@ -178,7 +193,7 @@ impl Counts {
         match stage {
             Stage::Header(_) => self.and(1, 0),
             Stage::Rows(kind) => {
-                let told = self.say_next(desk, kind, &held[..count]);
+                let told = self.say_next(people, desk, kind, &held[..count]);
                 if code == 0 {
                     return told;
                 }
@@ -189,13 +204,13 @@ impl Counts {
     }
 
     // Says how many lines were answered and refused, where somebody reads it as it comes. The header is none of them.
-    pub fn say_sum(self, desk: Desk) {
-        if on_terminal() {
+    pub fn say_sum(self, people: &(impl Print + IsTerminal), desk: Desk) {
+        if people.is_terminal() {
             let answered = std::num::wrapping_sub_u64(
                 self.lines,
                 std::num::wrapping_add_u64(self.refused, 1),
             );
-            say_counts(desk, answered, self.refused);
+            say_counts(people, desk, answered, self.refused);
         }
     }
 }

@@ -5,9 +5,10 @@ ghost use Rattle.list.specs.Kinds.{room};
 
 use crate::header::say_wrong;
 use crate::kept::{Kept, nothing_yet};
+use crate::people::{input_failed, output_failed};
 use crate::rows::{Counts, nothing_said};
-use libc::{STDIN_FILENO, STDOUT_FILENO};
 use list::{Desk, Stage, State};
+use std::io::{IsTerminal, Read};
 
 // What comes after a turn: more input, its end, or nothing, where the header was wrong or a call failed.
 #[derive(Clone, Copy)]
@@ -36,28 +37,15 @@ fn after(state: State, first: Kept, counts: Counts, next: Next) -> Turn {
     }
 }
 
-// Says which of its two streams failed a program, and why.
-fn output_failed(desk: Desk) {
-    match desk {
-        Desk::Launch => os::fail(b"launchlist: standard output"),
-        Desk::Bench => os::fail(b"benchlist: standard output"),
-    }
-}
-
-fn input_failed(desk: Desk) {
-    match desk {
-        Desk::Launch => os::fail(b"launchlist: standard input"),
-        Desk::Bench => os::fail(b"benchlist: standard input"),
-    }
-}
-
 // Writes to standard output, and says so where that fails.
-fn wrote(desk: Desk, text: &[u8]) -> bool {
-    if io::write_all(STDOUT_FILENO, text) {
-        return true;
+fn wrote(output: &impl Print, people: &impl Print, desk: Desk, text: &[u8]) -> bool {
+    match output.write_all(text) {
+        Ok(()) => true,
+        Err(why) => {
+            output_failed(people, desk, &why);
+            false
+        }
     }
-    output_failed(desk);
-    false
 }
 
 fn next_of(stage: Stage) -> Next {
@@ -79,6 +67,8 @@ fn first_with(first: Kept, stage: Stage, chunk: &[u8]) -> Kept {
 
 // Feeds all of a chunk, and writes what is answered before anything is said of it.
 fn drain(
+    output: &impl Print,
+    people: &impl Print,
     desk: Desk,
     begun: State,
     first: Kept,
@@ -96,12 +86,12 @@ fn drain(
         let n = fed.wrote;
         let end = at + fed.used;
         let later = fed.state;
-        if !wrote(desk, &out[..n]) {
+        if !wrote(output, people, desk, &out[..n]) {
             return after(later, first, counts, Next::Stop);
         }
         let stage = later.stage;
         let tally = fed.tally;
-        counts = counts.after_feeding(desk, state, &chunk[at..end], stage, tally);
+        counts = counts.after_feeding(people, desk, state, &chunk[at..end], stage, tally);
         state = later;
         at = end;
     }
@@ -111,6 +101,9 @@ fn drain(
 
 // Reads once, and answers what came.
 fn take_turn(
+    input: &mut impl Read,
+    output: &impl Print,
+    people: &impl Print,
     desk: Desk,
     state: State,
     first: Kept,
@@ -120,28 +113,29 @@ fn take_turn(
 ) -> Turn
     requires { room Desk.Bench ≤ length out.old }
 {
-    let got = libc::read(STDIN_FILENO, buf);
-    if got < 0 {
-        input_failed(desk);
-        return after(state, first, counts, Next::Stop);
-    }
-    let n = io::count(got, buf);
+    let n = match input.read(buf) {
+        Ok(n) => n,
+        Err(why) => {
+            input_failed(people, desk, &why);
+            return after(state, first, counts, Next::Stop);
+        }
+    };
     if n == 0 {
         return after(state, first, counts, Next::Finish);
     }
     let stage = state.stage;
     let kept = first_with(first, stage, &buf[..n]);
-    drain(desk, state, kept, counts, &buf[..n], out)
+    drain(output, people, desk, state, kept, counts, &buf[..n], out)
 }
 
 // Whether the input that has ended had a right header; if not, that is said.
-fn had_header(desk: Desk, stage: Stage, first: Kept, code: u8) -> bool {
+fn had_header(people: &impl Print, desk: Desk, stage: Stage, first: Kept, code: u8) -> bool {
     match stage {
         Stage::Header(_) => {
             if code == 0 {
                 return true;
             }
-            say_wrong(desk, first);
+            say_wrong(people, desk, first);
             false
         }
         Stage::Rows(_) => true,
@@ -150,25 +144,40 @@ fn had_header(desk: Desk, stage: Stage, first: Kept, code: u8) -> bool {
 }
 
 // What is still due at the end of the input. Whether all was well.
-fn finish(desk: Desk, state: State, first: Kept, counts: Counts, out: &mut [u8]) -> bool
+fn finish(
+    output: &impl Print,
+    people: &(impl Print + IsTerminal),
+    desk: Desk,
+    state: State,
+    first: Kept,
+    counts: Counts,
+    out: &mut [u8],
+) -> bool
     requires { room Desk.Bench ≤ length out.old }
 {
     let stage = state.stage;
     let x = list::finish(state, out);
     let n = x.wrote;
-    if !wrote(desk, &out[..n]) {
+    if !wrote(output, people, desk, &out[..n]) {
         return false;
     }
-    if !had_header(desk, stage, first, x.code) {
+    if !had_header(people, desk, stage, first, x.code) {
         return false;
     }
-    let all = counts.after_end(desk, state, x.code);
-    all.say_sum(desk);
+    let all = counts.after_end(people, desk, state, x.code);
+    all.say_sum(people, desk);
     true
 }
 
 // A proved loop has to end, and nothing says that the input does: turns are counted down, from a number that no input uses up.
-fn all(desk: Desk, buf: &mut [u8], out: &mut [u8]) -> bool
+fn all(
+    input: &mut impl Read,
+    output: &impl Print,
+    people: &(impl Print + IsTerminal),
+    desk: Desk,
+    buf: &mut [u8],
+    out: &mut [u8],
+) -> bool
     requires { room Desk.Bench ≤ length out.old }
 {
     let mut state = list::start(desk);
@@ -177,7 +186,7 @@ fn all(desk: Desk, buf: &mut [u8], out: &mut [u8]) -> bool
     let mut left = u64::MAX;
     while left > 0 {
         left -= 1;
-        let t = take_turn(desk, state, first, counts, buf, out);
+        let t = take_turn(input, output, people, desk, state, first, counts, buf, out);
         let later = t.state;
         state = later;
         let kept = t.first;
@@ -188,10 +197,10 @@ fn all(desk: Desk, buf: &mut [u8], out: &mut [u8]) -> bool
         match next {
             Next::Read => {}
             Next::Finish => {
-                return finish(desk, state, first, counts, out);
+                return finish(output, people, desk, state, first, counts, out);
             }
             Next::WrongHeader => {
-                say_wrong(desk, first);
+                say_wrong(people, desk, first);
                 return false;
             }
             Next::Stop => {
@@ -202,9 +211,17 @@ fn all(desk: Desk, buf: &mut [u8], out: &mut [u8]) -> bool
     false
 }
 
-// Answers standard input on standard output. Whether the header was right and all was read and written.
-pub fn answer(desk: Desk) -> bool {
-    let mut buf = io::large_buffer();
-    let mut out = io::large_buffer();
-    all(desk, &mut buf, &mut out)
+// So many bytes are read and answered at once.
+const AT_ONCE: usize = 65_536;
+
+// Answers a list, input to output, and says to people what is to be said. Whether the header was right and all was read and written.
+pub fn answer(
+    input: &mut impl Read,
+    output: &impl Print,
+    people: &(impl Print + IsTerminal),
+    desk: Desk,
+) -> bool {
+    let mut buf = [0u8; AT_ONCE];
+    let mut out = [0u8; AT_ONCE];
+    all(input, output, people, desk, &mut buf, &mut out)
 }
