@@ -72,6 +72,30 @@ slice_bounds-reply_to-start c =
     let e = ends c.args.chunk.now p.used c.line_end.result c.loop-place.invariant.standing.used c.line_end.ensures in
     omega (arith, e.some c.if-end-chunk.false)
 
+pub overflow_add-end : goal.overflow_add-end
+overflow_add-end c =
+    let p = c.loop-place.place in
+    let e = ends c.args.chunk.now p.used c.line_end.result c.loop-place.invariant.standing.used c.line_end.ensures in
+    omega (arith, e.within)
+
+pub slice_bounds-reply_to-end : goal.slice_bounds-reply_to-end
+slice_bounds-reply_to-end c =
+    let p = c.loop-place.place in
+    let e = ends c.args.chunk.now p.used c.line_end.result c.loop-place.invariant.standing.used c.line_end.ensures in
+    omega (arith, e.within, c.if-end-chunk.false)
+
+pub slice_bounds-hold-end-then-not-x : goal.slice_bounds-hold-end-then-not-x
+slice_bounds-hold-end-then-not-x c =
+    let p = c.loop-place.place in
+    let e = ends c.args.chunk.now p.used c.line_end.result c.loop-place.invariant.standing.used c.line_end.ensures in
+    omega (arith, e.within, c.if-end-chunk.false)
+
+pub overflow_add-place : goal.overflow_add-place
+overflow_add-place c =
+    let p = c.loop-place.place in
+    let e = ends c.args.chunk.now p.used c.line_end.result c.loop-place.invariant.standing.used c.line_end.ensures in
+    omega (arith, e.within, c.if-end-chunk.false)
+
 -- a line that the chunk does not end
 pub returns-then-end-chunk : goal.returns-then-end-chunk
 returns-then-end-chunk c st before at =
