@@ -1,4 +1,4 @@
-// The status of a run, which a program here cannot end with: it is written to a descriptor of its own, where there is one.
+// The status of a run, with which the programs do not end: it is written to a descriptor of its own, where there is one.
 use crate::turns::answer;
 use list::Desk;
 use std::io::{IsTerminal, Read};
