@@ -46,14 +46,15 @@ def in_snake(word):
     return RUN.sub(lambda m: snake(m[0]) if m.start() == 0 or word[m.start() - 1] != "_" else m[0], word)
 
 
-def antt_files():
-    return sorted(p for p in (ROOT / "crates").rglob("*.antt") if "out" not in p.parts)
+def of_crates(pattern):
+    """The files of the crates that are so named, and none that a check made."""
+    return sorted(p for p in (ROOT / "crates").rglob(pattern) if "out" not in p.relative_to(ROOT).parts)
 
 
 def declared():
     """The project's own definitions, lemmas and fields, with the files that declare each; and which are fields."""
     names, fields = collections.defaultdict(set), set()
-    for file in antt_files():
+    for file in of_crates("*.antt"):
         if file.name in OF_RATTLE:
             continue
         text = QUIET.sub(lambda m: " " * len(m[0]), file.read_text(encoding="utf-8"))
@@ -177,9 +178,9 @@ def main(words):
     check = words == ["--check"]
     turned = table()
     changed = 0
-    files = [(p, lambda t: chosen_antt(turn(t, QUIET, turned))) for p in antt_files()]
-    files += [(p, lambda t: chosen_rust(turn(t, RUST_QUIET, turned))) for p in sorted((ROOT / "crates").rglob("*.rt"))]
-    files += [(p, lambda t: chosen_edit(turned_edit(t, turned))) for p in sorted((ROOT / "crates").rglob("*.edit"))]
+    files = [(p, lambda t: chosen_antt(turn(t, QUIET, turned))) for p in of_crates("*.antt")]
+    files += [(p, lambda t: chosen_rust(turn(t, RUST_QUIET, turned))) for p in of_crates("*.rt")]
+    files += [(p, lambda t: chosen_edit(turned_edit(t, turned))) for p in of_crates("*.edit")]
     files += [(p, lambda t: turned_page(t, turned)) for p in [ROOT / "README.md", *sorted((ROOT / "docs").glob("*.md"))] if p.name != "PORT.md"]
     for file, of in files:
         text = file.read_text(encoding="utf-8")
