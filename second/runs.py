@@ -4,8 +4,8 @@ writes with what is due.
     python3 second/runs.py COMMAND [ARGUMENT ..]
 
 The last word is the program, and its file name says which of the two it is.
-Prints a line for each failure and, last, how many passed and failed. A program
-in Rattle cannot choose its exit status, so that 0 only means it ended by itself.
+Prints a line for each failure and, last, how many passed and failed. The programs
+end with 0 whatever happened, so that 0 only means they ended by themselves.
 """
 
 import sys
