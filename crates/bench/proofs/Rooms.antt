@@ -2,7 +2,8 @@
 use mathlib.Core.Path.{◌≡◌, refl, sym}
 use mathlib.Core.Bool.{Bool, true, false}
 use mathlib.Core.List.{List, ◌++◌}
-use mathlib.Core.Option.{none, some, some-injective, none-ne-some}
+use Rattle.std.specs.Prelude.{None, Some}
+use Rattle.std.proofs.lemmas.Option.{none-some}
 use Prim.Native.Nat.{ℕ, ◌+◌, ◌*◌, ◌≤◌}
 use Prim.Native.Char.{code}
 use native.Mathlib.Omega.{arith}
@@ -26,7 +27,7 @@ use Rattle.law.specs.Answers.{LawAndRatio, no_ratio}
 use Rattle.curve.specs.declared.tolerance.Class.{Class}
 use Rattle.curve.specs.Curve.{exact, units, first, last}
 use Rattle.curve.specs.Ways.{range}
-use Rattle.curve.specs.Tolerance.{class_a, class_b, class_named, allows, Result, no_result, test_by_class}
+use Rattle.curve.specs.Tolerance.{class_a, class_b, class_named, allows, LawAndResult, no_result, test_by_class}
 use Rattle.certificate.specs.declared.record.Record.{Record}
 use Rattle.certificate.specs.declared.soundness.Given.{Given}
 use Rattle.certificate.specs.Certificate.{LawAndPlaces, no_places, held, certificate_of, sound_tests}
@@ -111,14 +112,17 @@ pub steps_kept : LinesKept steps ratio_room
 steps_kept = lines_kept steps ratio_bytes step_row small-step (names_short _ name-short _ _ _ _) (omega arith) (omega arith)
 
 -- ---- tolerance tests
+some_is : (class class' : Class) → Some class ≡ Some class' → class ≡ class'
+some_is class class' e = cc
+
 -- no class goes past the curve
-class_top : (letter : ℕ) (class : Class) → class_named letter ≡ some class → class.top ≤ℤ last
+class_top : (letter : ℕ) (class : Class) → class_named letter ≡ Some class → class.top ≤ℤ last
 class_top letter class = by (eqb letter (code "A")) (eqb letter (code "B"))
   where
-    by : (a b : Bool) → (if a then some class_a otherwise if b then some class_b otherwise none) ≡ some class → class.top ≤ℤ last
-    by true b e = rw (sym (some-injective class_a class e)) (omega ints)
-    by false true e = rw (sym (some-injective class_b class e)) (omega ints)
-    by false false e = absurd (none-ne-some class e)
+    by : (a b : Bool) → (if a then Some class_a otherwise if b then Some class_b otherwise None) ≡ Some class → class.top ≤ℤ last
+    by true b e = let is : class_a ≡ class = some_is class_a class e in rw (sym is) (omega ints)
+    by false true e = let is : class_b ≡ class = some_is class_b class e in rw (sym is) (omega ints)
+    by false false e = absurd (none-some class e)
 
 -- the curve's step less the bath's
 error-small : (bath value step : ℤ) → first ≤ℤ bath → bath ≤ℤ last → Largest exact first last value step → nat_abs (step -ℤ bath) ≤ 10_500_000
@@ -128,7 +132,7 @@ pub word_few : (passes : Bool) → length (result_word passes ++ ascii ",") ≤ 
 word_few true = omega arith
 word_few false = omega arith
 
-result_short : (bath : ℤ) (r r0 : ℕ) (class : Class) → class.top ≤ℤ last → (a : Result) → number_given (test_by_class class bath r r0).tests ≡ 0
+result_short : (bath : ℤ) (r r0 : ℕ) (class : Class) → class.top ≤ℤ last → (a : LawAndResult) → number_given (test_by_class class bath r r0).tests ≡ 0
     → (test_by_class class bath r r0).Answer a → length (commaed (tolerances.written a)) ≤ result_bytes
 result_short bath r r0 class top a e (step, l, is) =
     let value = units (ratio_of r r0) in
@@ -136,7 +140,7 @@ result_short bath r r0 class top a e (step, l, is) =
     let error = error-small bath value step within.0 (omega (ints, within.1)) l in
     rw is (simp length-append (omega (arith, simp length-append at (word_few (allows class bath (step -ℤ bath))), signed_few 7 (step -ℤ bath) (omega arith))))
 
-small_test : (row : List Value) (o : Outcome Result) → Follows (tolerances.rule row) o → Small tolerances result_bytes o
+small_test : (row : List Value) (o : Outcome LawAndResult) → Follows (tolerances.rule row) o → Small tolerances result_bytes o
 small_test row =
     let letter = letter_at 1 row in
     small_row tolerances result_bytes no_result (class_named letter) (λ class. test_by_class class (integer_at 2 row) (count_at 3 row) (count_at 4 row)) (λ class. refl) (omega arith)

@@ -3,7 +3,7 @@ use mathlib.Core.Path.{◌≡◌}
 use mathlib.Core.List.{List}
 use Rattle.quantity.specs.Outcomes.{Outcome, Follows}
 use Rattle.law.specs.Answers.{LawAndRatio}
-use Rattle.curve.specs.Tolerance.{Result}
+use Rattle.curve.specs.Tolerance.{LawAndResult}
 use Rattle.curve.proofs.Unique.{test_unique}
 use Rattle.certificate.specs.Certificate.{LawAndPlaces}
 use Rattle.certificate.proofs.Answers.{record_unique, resistances_unique}
@@ -30,5 +30,5 @@ pub step_row : (row : List Value) (o o' : Outcome LawAndRatio) → Follows (step
 step_row row = ratio_unique (given_at 3 row) (integer_at 2 row)
 
 -- ---- a tolerance test
-pub test_row : (limits : Limits) (row : List Value) (o o' : Outcome Result) → Follows ((tolerances_up_to limits).rule row) o → Follows ((tolerances_up_to limits).rule row) o' → o ≡ o'
+pub test_row : (limits : Limits) (row : List Value) (o o' : Outcome LawAndResult) → Follows ((tolerances_up_to limits).rule row) o → Follows ((tolerances_up_to limits).rule row) o' → o ≡ o'
 test_row limits row = test_unique limits.largest (letter_at 1 row) (integer_at 2 row) (count_at 3 row) (count_at 4 row)

@@ -1,11 +1,11 @@
 -- Lists of records, which become certificates, and what is written of one.
-use Rattle.std.specs.Prelude.{List, [], ◌∷◌, ◌++◌, ℕ}
+use Rattle.std.specs.Prelude.{List, [], ◌∷◌, ◌++◌, ℕ, Err, Ok, Result}
 use Prim.Native.String.{String}
 use Rattle.whole.specs.Text.{ascii}
 use Rattle.quantity.specs.Refusals.{number_of}
 use Rattle.deviation.specs.declared.places.Places.{Places}
-use Rattle.certificate.specs.declared.soundness.CertificateAnswer.{CertificateAnswer}
-use Rattle.certificate.specs.declared.soundness.CertificateAnswer.TheVariants.{Certificate, Refused}
+use Rattle.quantity.specs.declared.refusal.Refusal.{Refusal}
+use Rattle.certificate.specs.declared.soundness.Certificate.{Certificate}
 use Rattle.certificate.specs.Certificate.{LawAndPlaces}
 use Rattle.certificate.specs.Record.{record_rule}
 use Rattle.certificate.specs.Resistances.{resistances_rule_up_to}
@@ -49,6 +49,6 @@ abbrev pub resistances : Kind
 resistances = resistances_up_to limits
 
 -- What an inner function writes of a record's answer, after its names.
-abbrev pub CertificatePlaced : CertificateAnswer → List ℕ → List ℕ → List ℕ → Placing → Type 0
-CertificatePlaced (Certificate k) names out out' x = PlacedAs 0 (names ++ commaed (places_written k.places) ++ ascii "0\r\n") out out' x
-CertificatePlaced (Refused why) names out out' x = PlacedAs (number_of why) (refused_text names (commaed (blanks place_titles)) (number_of why)) out out' x
+abbrev pub CertificatePlaced : Result Certificate Refusal → List ℕ → List ℕ → List ℕ → Placing → Type 0
+CertificatePlaced (Ok k) names out out' x = PlacedAs 0 (names ++ commaed (places_written k.places) ++ ascii "0\r\n") out out' x
+CertificatePlaced (Err why) names out out' x = PlacedAs (number_of why) (refused_text names (commaed (blanks place_titles)) (number_of why)) out out' x

@@ -6,6 +6,6 @@ mod forward;
 mod scratch;
 mod tolerances;
 
-pub use certificates::{answer_record, answer_resistances, place_record, place_resistances};
-pub use forward::{answer_forward, place_forward};
-pub use tolerances::{answer_tolerance, place_tolerance};
+pub use certificates::{Records, RecordsByResistances};
+pub use forward::Steps;
+pub use tolerances::Tolerances;

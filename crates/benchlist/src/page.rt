@@ -1,8 +1,7 @@
 // The help page.
-use std::io;
 
 // What is written at once, part by part.
-const PARTS: [&[u8]; 44] = [
+pub const PARTS: [&[u8]; 44] = [
     b"benchlist - answers the bench's lists: records, steps, tolerance tests\n\n",
     b"usage: benchlist [--status] < LIST > ANSWERS\n",
     b"       benchlist --help\n\n",
@@ -48,14 +47,3 @@ const PARTS: [&[u8]; 44] = [
     b"--status writes 0, or 1 after a wrong first line or a failure, to\n",
     b"descriptor 3, and ./run makes its own of it.\n",
 ];
-
-// Writes all of it, and goes on where a part fails. The last failure, if there was one.
-pub fn print(to: &impl Print) -> io::Result<()> {
-    let mut written = Ok(());
-    for part in PARTS {
-        if let Err(why) = to.write_all(part) {
-            written = Err(why);
-        }
-    }
-    written
-}

@@ -2,16 +2,14 @@
 use mathlib.Core.Path.{◌≡◌, refl, sym, ◌∙◌, ap, ap₂}
 use mathlib.Core.Bool.{Bool, true, false, false≢true, ◌&&◌, not}
 use mathlib.Core.List.{List, [], ◌∷◌}
-use mathlib.Core.Option.{Option, none, some}
+use Rattle.std.specs.Prelude.{Option, None, Some}
 use Prim.Native.Nat.{ℕ}
 use native.Mathlib.Omega.{arith}
 use borrow.Author.Tests.{eqb-true, eqb-false, not-true}
 use lib.Dec.{eqb}
-use lib.IntN.{ℤ}
-use lib.Signed.{le_z}
+use Rattle.std.specs.Ordering.{int_eq}
+use Rattle.std.proofs.lemmas.Bool.Decides.{Decides-int_eq}
 use Rattle.whole.proofs.Choice.{and_true}
-use Rattle.whole.proofs.Machine.{le_yes}
-use Rattle.whole.proofs.Parts.{ints}
 use Rattle.exact.specs.Polynomial.{rounded}
 use Rattle.quantity.specs.Quantities.{is_reading, is_divisor}
 use Rattle.quantity.specs.Outcomes.{answered, number_given, Follows, if_named}
@@ -39,21 +37,10 @@ use Rattle.reading.proofs.LeastRatio.{reads-resistances}
 use Rattle.reading.proofs.Tests.{step_test, step-passes, refusal_test, refusal_passes}
 use Rattle.cards.specs.Cards.{Reads, step, number, read_by, Gives, places, given_by, places_of, Card, works, reads, gives, Holds, cards, Each, CardsHold}
 
--- ---- two numbers are the same
-abbrev same : ℤ → ℤ → Bool
-same a b = le_z a b && le_z b a
-
-is_same : (a b : ℤ) → same a b ≡ true → a ≡ b
-is_same a b e =
-    let both = and_true (le_z a b) (le_z b a) e in
-    let p = le_yes {a = a} {b = b} refl both.0 in
-    let q = le_yes {a = b} {b = a} refl both.1 in
-    omega (ints, p, q)
-
 -- ---- two laws are the same where their names are
 abbrev name_if : Option Law → ℕ
-name_if none = 0
-name_if (some law) = law_name law
+name_if None = 0
+name_if (Some law) = law_name law
 
 has-name : (law : Law) → 0 ≡ law_name law → ⊥
 has-name Curve e = omega (arith, e)
@@ -61,40 +48,40 @@ has-name (Scale s) e =
     eqb-false (law_name (Scale s)) 0 (not-true (eqb (law_name (Scale s)) 0) (every_subrange (λ (s : Subrange). not (eqb (law_name (Scale s)) 0)) refl s)) (sym e)
 
 same-law : (p q : Option Law) → name_if p ≡ name_if q → p ≡ q
-same-law none none e = refl
-same-law none (some law) e = absurd (has-name law e)
-same-law (some law) none e = absurd (has-name law (sym e))
-same-law (some law) (some law') e = sym (names_law law) ∙ ap law_named e ∙ names_law law'
+same-law None None e = refl
+same-law None (Some law) e = absurd (has-name law e)
+same-law (Some law) None e = absurd (has-name law (sym e))
+same-law (Some law) (Some law') e = sym (names_law law) ∙ ap law_named e ∙ names_law law'
 
 -- ---- what a record gives
 abbrev same_places : Places → Places → Bool
-same_places p q = (same p.a q.a && same p.b q.b) && ((same p.c q.c && same p.d q.d) && eqb p.wal.0 q.wal.0)
+same_places p q = (int_eq p.a q.a && int_eq p.b q.b) && ((int_eq p.c q.c && int_eq p.d q.d) && eqb p.wal.0 q.wal.0)
 
 is_same_places : (p q : Places) → same_places p q ≡ true → p ≡ q
 is_same_places p q e =
-    let (low, high) = and_true (same p.a q.a && same p.b q.b) ((same p.c q.c && same p.d q.d) && eqb p.wal.0 q.wal.0) e in
-    let (a, b) = and_true (same p.a q.a) (same p.b q.b) low in
-    let (cd, wal) = and_true (same p.c q.c && same p.d q.d) (eqb p.wal.0 q.wal.0) high in
-    let (c, d) = and_true (same p.c q.c) (same p.d q.d) cd in
-    let fields : places_of p.a p.b p.c p.d p.wal.0 ≡ q = rw (is_same p.a q.a a, is_same p.b q.b b, is_same p.c q.c c, is_same p.d q.d d, eqb-true p.wal.0 q.wal.0 wal) refl in
+    let (low, high) = and_true (int_eq p.a q.a && int_eq p.b q.b) ((int_eq p.c q.c && int_eq p.d q.d) && eqb p.wal.0 q.wal.0) e in
+    let (a, b) = and_true (int_eq p.a q.a) (int_eq p.b q.b) low in
+    let (cd, wal) = and_true (int_eq p.c q.c && int_eq p.d q.d) (eqb p.wal.0 q.wal.0) high in
+    let (c, d) = and_true (int_eq p.c q.c) (int_eq p.d q.d) cd in
+    let fields : places_of p.a p.b p.c p.d p.wal.0 ≡ q = rw ((Decides-int_eq p.a q.a).0 a, (Decides-int_eq p.b q.b).0 b, (Decides-int_eq p.c q.c).0 c, (Decides-int_eq p.d q.d).0 d, eqb-true p.wal.0 q.wal.0 wal) refl in
     fields
 
 -- by the subrange that the record names, and the law of the same name
 abbrev record_test : Option Subrange → Option Law → Record → Gives → Bool
-record_test none law ratios x = false
-record_test (some s) law ratios (places p) =
+record_test None law ratios x = false
+record_test (Some s) law ratios (places p) =
     eqb (number_given (record_of s ratios).tests) 0 && (eqb (name_if law) (law_name (Scale s)) && same_places p (made s ratios).places)
-record_test (some s) law ratios (number n) = not (eqb n 0) && eqb (number_given (record_of s ratios).tests) n
+record_test (Some s) law ratios (number n) = not (eqb n 0) && eqb (number_given (record_of s ratios).tests) n
 
 record_passes : (named : Option Subrange) (law : Option Law) (ratios : Record) (x : Gives) → record_test named law ratios x ≡ true → Follows (if_named no_places named (λ s. record_of s ratios)) (given_by law x)
-record_passes none law ratios x e = absurd (false≢true e)
-record_passes (some s) law ratios (places p) e =
+record_passes None law ratios x e = absurd (false≢true e)
+record_passes (Some s) law ratios (places p) e =
     let rule = record_of s ratios in
     let (given, head) = and_true (eqb (number_given rule.tests) 0) (eqb (name_if law) (law_name (Scale s)) && same_places p (made s ratios).places) e in
     let (name, fields) = and_true (eqb (name_if law) (law_name (Scale s))) (same_places p (made s ratios).places) head in
     follows-answer rule (eqb-true (number_given rule.tests) 0 given) _
-    (ap₂ {C = LawAndPlaces} (λ (l : Option Law) (q : Places). record { law = l; places = q }) (same-law law (some (Scale s)) (eqb-true (name_if law) (law_name (Scale s)) name)) (is_same_places p (made s ratios).places fields))
-record_passes (some s) law ratios (number n) e =
+    (ap₂ {C = LawAndPlaces} (λ (l : Option Law) (q : Places). record { law = l; places = q }) (same-law law (Some (Scale s)) (eqb-true (name_if law) (law_name (Scale s)) name)) (is_same_places p (made s ratios).places fields))
+record_passes (Some s) law ratios (number n) e =
     let rule = record_of s ratios in
     let (Some-number, given) = and_true (not (eqb n 0)) (eqb (number_given rule.tests) n) e in
     follows-refusal rule n (not-true (eqb n 0) Some-number) (eqb-true (number_given rule.tests) n given)
@@ -104,32 +91,32 @@ abbrev ratio_test : Reads → Law → Places → ℕ → Bool
 ratio_test (step t) law k w = step_test law k w t
 ratio_test (number n) law k w = refusal_test law k w n
 
-ratio-passes : (o : Reads) (law : Law) (k : Places) (w : ℕ) → ratio_test o law k w ≡ true → Follows (read_ratio law k w) (read_by (some law) o)
+ratio-passes : (o : Reads) (law : Law) (k : Places) (w : ℕ) → ratio_test o law k w ≡ true → Follows (read_ratio law k w) (read_by (Some law) o)
 ratio-passes (step t) law k w e = step-passes law k w t e
 ratio-passes (number n) law k w e = refusal_passes law k w n e
 
 abbrev named_test : Option Law → Given → ℕ → Reads → Bool
-named_test none k w o = false
-named_test (some law) k w o = sound (certificate_of law k) && ratio_test o law k.places w
+named_test None k w o = false
+named_test (Some law) k w o = sound (certificate_of law k) && ratio_test o law k.places w
 
 named-passes : (law : Option Law) (k : Given) (w : ℕ) (o : Reads) → named_test law k w o ≡ true → (r r0 : ℕ) → Follows (ratio_rule r r0) (answered w)
     → Follows (if_named no_step law (λ law. read_certificate (certificate_of law k) r r0)) (read_by law o)
-named-passes none k w o e r r0 has = absurd (false≢true e)
-named-passes (some law) k w o e r r0 has =
+named-passes None k w o e r r0 has = absurd (false≢true e)
+named-passes (Some law) k w o e r r0 has =
     let both = and_true (sound (certificate_of law k)) (ratio_test o law k.places w) e in
     let a = answer-follows (ratio_rule r r0) (answered w) refl has in
     let p = ratio_passed r r0 a.0 in
     let resistances : (is_reading r && is_divisor r0) ≡ true = rw (p.reading, p.divisor) in
-    reads-resistances (certificate_of law k) r r0 both.0 resistances p.within (read_by (some law) o) (rw a.1 at (ratio-passes o law k.places w both.1))
+    reads-resistances (certificate_of law k) r r0 both.0 resistances p.within (read_by (Some law) o) (rw a.1 at (ratio-passes o law k.places w both.1))
 
 -- ---- the test of a card
 abbrev passes : Card → Bool
-passes (works t value) = same (working t) value
+passes (works t value) = int_eq (working t) value
 passes (reads k w o) = named_test (law_named k.law.0) k w o
 passes (gives ratios o) = record_test (subrange_named ratios.subrange.0) (law_named ratios.subrange.0) ratios o
 
 holds : (card : Card) → passes card ≡ true → Holds card
-holds (works t value) e = is_same (working t) value e
+holds (works t value) e = (Decides-int_eq (working t) value).0 e
 holds (reads k w o) e = named-passes (law_named k.law.0) k w o e
 holds (gives ratios o) e = record_passes (subrange_named ratios.subrange.0) (law_named ratios.subrange.0) ratios o e
 

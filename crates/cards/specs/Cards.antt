@@ -1,6 +1,5 @@
 -- The bench cards that are proved: one table of inputs and outcomes.
-use Rattle.std.specs.Prelude.{◌≡◌, List, [], ◌∷◌, ℕ, ℤ, pos, neg_ℤ}
-use Rattle.std.proofs.Math.Option.{Option}
+use Rattle.std.specs.Prelude.{◌≡◌, List, [], ◌∷◌, ℕ, ℤ, pos, neg_ℤ, Option}
 use Rattle.quantity.specs.Outcomes.{Outcome, answered, refused, Follows}
 use Rattle.quantity.specs.Ratios.{ratio_rule}
 use Rattle.reference.specs.Reference.{working}

@@ -1,7 +1,7 @@
 -- What a record given as resistances yields is what the record of its ratios yields.
 use mathlib.Core.Path.{◌≡◌, refl, ap}
 use mathlib.Core.Bool.{false}
-use mathlib.Core.Option.{Option, none, some}
+use Rattle.std.specs.Prelude.{Option, None, Some}
 use Prim.Native.Nat.{ℕ}
 use native.Mathlib.Omega.{arith}
 use Rattle.quantity.specs.Outcomes.{Outcome, answered, Follows, if_named}
@@ -49,12 +49,12 @@ inside resistances e =
 -- ---- the rule of the ratios, with 1 as its first test
 module _ (resistances : Resistances) (e : outside resistances ≡ false) (o : Outcome LawAndPlaces) where
   with-1 : (named : Option Subrange) → Follows (if_named no_places named (λ s. record_of s (ratios_of resistances))) o → Follows (if_named no_places named (λ s. resistances_of s resistances)) o
-  with-1 none h = h
-  with-1 (some s) h = rw e h
+  with-1 None h = h
+  with-1 (Some s) h = rw e h
 
   without-1 : (named : Option Subrange) → Follows (if_named no_places named (λ s. resistances_of s resistances)) o → Follows (if_named no_places named (λ s. record_of s (ratios_of resistances))) o
-  without-1 none h = h
-  without-1 (some s) h = rw e at h
+  without-1 None h = h
+  without-1 (Some s) h = rw e at h
 
 pub as_ratios : AsRatios
 as_ratios resistances o e =
@@ -63,8 +63,8 @@ as_ratios resistances o e =
 
 -- ---- a certificate, which passes 1
 yielded_inside : (resistances : Resistances) (k : Certificate) (named : Option Subrange) → Follows (if_named no_places named (λ s. resistances_of s resistances)) (answered (held k)) → outside resistances ≡ false
-yielded_inside resistances k none h = absurd (let z : ◌≡◌ {A = ℕ} 0 3 = ap (λ (o : Outcome LawAndPlaces). o.code) h in omega arith)
-yielded_inside resistances k (some s) h =
+yielded_inside resistances k None h = absurd (let z : ◌≡◌ {A = ℕ} 0 3 = ap (λ (o : Outcome LawAndPlaces). o.code) h in omega arith)
+yielded_inside resistances k (Some s) h =
     (passed (outside resistances) 1 (record_of s (ratios_of resistances)).tests (omega arith) (answer-follows (resistances_of s resistances) (answered (held k)) refl h).0).0
 
 pub yielded_by_ratios : YieldedByRatios

@@ -2,12 +2,12 @@
 use mathlib.Core.Path.{◌≡◌, refl, sym, ◌∙◌, ap}
 use mathlib.Core.Bool.{Bool, true, false, true≢false, false≢true, ◌&&◌, ◌||◌, not}
 use mathlib.Core.List.{List, [], ◌∷◌}
-use mathlib.Core.Option.{Option, none, some}
+use Rattle.std.specs.Prelude.{Option, None, Some}
 use Prim.Native.Nat.{ℕ}
 use native.Mathlib.Omega.{arith}
 use borrow.Author.Tests.{eqb-true}
 use lib.Dec.{eqb}
-use Rattle.whole.specs.Any.{any}
+use Rattle.std.specs.List.{list_any}
 use Rattle.whole.specs.Choice.{if◌then◌otherwise◌}
 use Rattle.purity.specs.Purity.{by_gallium_or_mercury, by_silver}
 use Rattle.quantity.specs.Outcomes.{Outcome, Test, ◌gives◌, number_given, Rule, Follows, if_named}
@@ -20,12 +20,10 @@ use Rattle.law.specs.Subranges.{carried, cells, to_silver, subrange_named}
 use Rattle.fit.specs.Fit.{beyond}
 use Rattle.certificate.specs.declared.record.Record.{Record}
 use Rattle.certificate.specs.declared.resistances.Resistances.{Resistances}
-use Rattle.certificate.specs.declared.fault.FaultyCell.{FaultyCell}
-use Rattle.certificate.specs.declared.fault.FaultyCell.TheVariants.{At, Nowhere}
 use Rattle.certificate.specs.Certificate.{LawAndPlaces, no_places}
 use Rattle.certificate.specs.Record.{ratio, measured, is_above, ratio_above, is_missing, cell_missing, purity_cell_missing, impure, cell_deviates, deviates, fitted, record_of}
 use Rattle.certificate.specs.Resistances.{cell_outside, outside_up_to, outside, ratios_of, resistances_of}
-use Rattle.certificate.specs.AtFault.{breaks_purity, cell_for, at_fault, cell_for_by, at_fault_by, of_named, cell_at_fault, cell_at_fault_by, stated_cell}
+use Rattle.certificate.specs.AtFault.{breaks_purity, cell_for, at_fault, cell_for_by, at_fault_by, of_named, cell_at_fault, cell_at_fault_by}
 use Rattle.certificate.specs.Promised.{among, FaultFound, NoneAtFault, FaultFoundBy, NoneAtFaultBy, CoefficientAtFault, CoefficientAtFaultBy}
 use Rattle.certificate.proofs.Firsts.{first_found, none-holds}
 
@@ -38,7 +36,7 @@ one-breaks ga hg true true false m e = refl
 one-breaks ga hg true true true m e = absurd (false≢true e)
 one-breaks ga hg true false enough m e = absurd (false≢true e)
 
-some_breaks : (s : Subrange) (ratios : Record) → purity_cell_missing ratios ≡ false → impure s ratios ≡ true → any (breaks_purity s ratios) all_cells ≡ true
+some_breaks : (s : Subrange) (ratios : Record) → purity_cell_missing ratios ≡ false → impure s ratios ≡ true → list_any (breaks_purity s ratios) all_cells ≡ true
 unfolding purity_cell_missing impure
 some_breaks s ratios =
     one-breaks (measured ratios Ga) (measured ratios Hg) (by_gallium_or_mercury (ratio ratios Hg) (ratio ratios Ga)) (to_silver (carried s).form) (by_silver (ratio ratios Ag))
@@ -73,10 +71,10 @@ of_given P ((holds gives n) ∷ tests) each = by holds refl (of_given P tests)
 -- ---- of a known subrange
 module _ (s : Subrange) (ratios : Record) where
   -- a record is never refused by 1, by which resistances are
-  found : among (1 ∷ 2 ∷ 4 ∷ 6 ∷ []) (number_given (record_of s ratios).tests) ≡ true → (p : Cell) × (at_fault s ratios ≡ some p)
+  found : among (1 ∷ 2 ∷ 4 ∷ 6 ∷ []) (number_given (record_of s ratios).tests) ≡ true → (p : Cell) × (at_fault s ratios ≡ Some p)
   unfolding at_fault ratio_above cell_missing
   found =
-      of_given (λ n. among (1 ∷ 2 ∷ 4 ∷ 6 ∷ []) n ≡ true → (p : Cell) × (cell_for s ratios n ≡ some p)) (record_of s ratios).tests (
+      of_given (λ n. among (1 ∷ 2 ∷ 4 ∷ 6 ∷ []) n ≡ true → (p : Cell) × (cell_for s ratios n ≡ Some p)) (record_of s ratios).tests (
         λ above e. first_found (is_above ratios) all_cells above,
         λ _. (
           λ missing e. first_found (is_missing ratios) (cells s) missing,
@@ -93,9 +91,9 @@ module _ (s : Subrange) (ratios : Record) where
         ),
       )
 
-  no_fault : among (0 ∷ 3 ∷ 5 ∷ []) (number_given (record_of s ratios).tests) ≡ true → at_fault s ratios ≡ none
+  no_fault : among (0 ∷ 3 ∷ 5 ∷ []) (number_given (record_of s ratios).tests) ≡ true → at_fault s ratios ≡ None
   unfolding at_fault
-  no_fault = of_among (λ n. cell_for s ratios n ≡ none) (0 ∷ 3 ∷ 5 ∷ []) (refl, (refl, (refl, tt))) (number_given (record_of s ratios).tests)
+  no_fault = of_among (λ n. cell_for s ratios n ≡ None) (0 ∷ 3 ∷ 5 ∷ []) (refl, (refl, (refl, tt))) (number_given (record_of s ratios).tests)
 
   -- 7 is given for a deviation or for a coefficient
   refused-by-7 : number_given (record_of s ratios).tests ≡ 7 → (deviates ratios || beyond (fitted ratios (cells s))) ≡ true
@@ -103,7 +101,7 @@ module _ (s : Subrange) (ratios : Record) where
       of_given (λ n. n ≡ 7 → (deviates ratios || beyond (fitted ratios (cells s))) ≡ true) (record_of s ratios).tests
       (λ _ e. absurd (omega arith), λ _. (λ _ e. absurd (omega arith), λ _. (λ _ e. absurd (omega arith), λ _. (λ _ e. absurd (omega arith), λ _. (λ far e. far, λ _ e. absurd (omega arith))))))
 
-  coefficient : number_given (record_of s ratios).tests ≡ 7 → at_fault s ratios ≡ none → (deviates ratios ≡ false) × (beyond (fitted ratios (cells s)) ≡ true)
+  coefficient : number_given (record_of s ratios).tests ≡ 7 → at_fault s ratios ≡ None → (deviates ratios ≡ false) × (beyond (fitted ratios (cells s)) ≡ true)
   unfolding at_fault deviates
   coefficient is e =
       let no : deviates ratios ≡ false = none-holds (cell_deviates ratios) all_cells (rw is at e) in
@@ -121,19 +119,19 @@ module _ (s : Subrange) (resistances : Resistances) where
   unfolding at_fault at_fault_by
   fault-of-ratios inside = rw (inside, never-1 s (ratios_of resistances))
 
-  found-by : among (1 ∷ 2 ∷ 4 ∷ 6 ∷ []) given ≡ true → (p : Cell) × (at_fault_by s resistances ≡ some p)
+  found-by : among (1 ∷ 2 ∷ 4 ∷ 6 ∷ []) given ≡ true → (p : Cell) × (at_fault_by s resistances ≡ Some p)
   unfolding at_fault_by outside_up_to
   found-by = by (outside resistances) refl
     where
-      by : (out : Bool) → outside resistances ≡ out → among (1 ∷ 2 ∷ 4 ∷ 6 ∷ []) given ≡ true → (p : Cell) × (at_fault_by s resistances ≡ some p)
+      by : (out : Bool) → outside resistances ≡ out → among (1 ∷ 2 ∷ 4 ∷ 6 ∷ []) given ≡ true → (p : Cell) × (at_fault_by s resistances ≡ Some p)
       by true o e = rw o (first_found (cell_outside resistances) all_cells o)
       by false o e = rw (fault-of-ratios o) (found s (ratios_of resistances) (rw o at e))
 
-  no-fault-by : among (0 ∷ 3 ∷ 5 ∷ []) given ≡ true → at_fault_by s resistances ≡ none
+  no-fault-by : among (0 ∷ 3 ∷ 5 ∷ []) given ≡ true → at_fault_by s resistances ≡ None
   unfolding at_fault_by
-  no-fault-by = of_among (λ n. cell_for_by s resistances n ≡ none) (0 ∷ 3 ∷ 5 ∷ []) (refl, (refl, (refl, tt))) given
+  no-fault-by = of_among (λ n. cell_for_by s resistances n ≡ None) (0 ∷ 3 ∷ 5 ∷ []) (refl, (refl, (refl, tt))) given
 
-  coefficient-by : given ≡ 7 → at_fault_by s resistances ≡ none → (deviates (ratios_of resistances) ≡ false) × (beyond (fitted (ratios_of resistances) (cells s)) ≡ true)
+  coefficient-by : given ≡ 7 → at_fault_by s resistances ≡ None → (deviates (ratios_of resistances) ≡ false) × (beyond (fitted (ratios_of resistances) (cells s)) ≡ true)
   coefficient-by is e = by (outside resistances) refl
     where
       by : (out : Bool) → outside resistances ≡ out → (deviates (ratios_of resistances) ≡ false) × (beyond (fitted (ratios_of resistances) (cells s)) ≡ true)
@@ -142,18 +140,18 @@ module _ (s : Subrange) (resistances : Resistances) where
 
 -- ---- by what the name names
 module _ (rule : Subrange → Rule LawAndPlaces) (fault : Subrange → Option Cell) (o : Outcome LawAndPlaces) where
-  named-found : ((s : Subrange) → among (1 ∷ 2 ∷ 4 ∷ 6 ∷ []) (number_given (rule s).tests) ≡ true → (p : Cell) × (fault s ≡ some p))
-      → (named : Option Subrange) → Follows (if_named no_places named rule) o → among (1 ∷ 2 ∷ 4 ∷ 6 ∷ []) o.code ≡ true → (p : Cell) × (of_named named fault ≡ some p)
-  named-found each none h e = absurd (false≢true (rw (code-is-given (if_named {B = Subrange} no_places none rule) o h) at e))
-  named-found each (some s) h e = each s (rw (code-is-given (rule s) o h) at e)
+  named-found : ((s : Subrange) → among (1 ∷ 2 ∷ 4 ∷ 6 ∷ []) (number_given (rule s).tests) ≡ true → (p : Cell) × (fault s ≡ Some p))
+      → (named : Option Subrange) → Follows (if_named no_places named rule) o → among (1 ∷ 2 ∷ 4 ∷ 6 ∷ []) o.code ≡ true → (p : Cell) × (of_named named fault ≡ Some p)
+  named-found each None h e = absurd (false≢true (rw (code-is-given (if_named {B = Subrange} no_places None rule) o h) at e))
+  named-found each (Some s) h e = each s (rw (code-is-given (rule s) o h) at e)
 
-  named_none : ((s : Subrange) → among (0 ∷ 3 ∷ 5 ∷ []) (number_given (rule s).tests) ≡ true → fault s ≡ none)
-      → (named : Option Subrange) → Follows (if_named no_places named rule) o → among (0 ∷ 3 ∷ 5 ∷ []) o.code ≡ true → of_named named fault ≡ none
-  named_none each none h e = refl
-  named_none each (some s) h e = each s (rw (code-is-given (rule s) o h) at e)
+  named_none : ((s : Subrange) → among (0 ∷ 3 ∷ 5 ∷ []) (number_given (rule s).tests) ≡ true → fault s ≡ None)
+      → (named : Option Subrange) → Follows (if_named no_places named rule) o → among (0 ∷ 3 ∷ 5 ∷ []) o.code ≡ true → of_named named fault ≡ None
+  named_none each None h e = refl
+  named_none each (Some s) h e = each s (rw (code-is-given (rule s) o h) at e)
 
-  named-coefficient : {P : Subrange → Type 0} → ((s : Subrange) → number_given (rule s).tests ≡ 7 → fault s ≡ none → P s)
-      → (named : Option Subrange) (s : Subrange) → named ≡ some s → Follows (if_named no_places named rule) o → o.code ≡ 7 → of_named named fault ≡ none → P s
+  named-coefficient : {P : Subrange → Type 0} → ((s : Subrange) → number_given (rule s).tests ≡ 7 → fault s ≡ None → P s)
+      → (named : Option Subrange) (s : Subrange) → named ≡ Some s → Follows (if_named no_places named rule) o → o.code ≡ 7 → of_named named fault ≡ None → P s
   named-coefficient each named s is h e f = each s (sym (code-is-given (rule s) o (rw is at h)) ∙ e) (rw is at f)
 
 or_later : (a b : Bool) → b ≡ true → (a || b) ≡ true
@@ -186,19 +184,8 @@ unfolding cell_at_fault_by
 coefficient_at_fault_by resistances s o = named-coefficient (λ s. resistances_of s resistances) (λ s. at_fault_by s resistances) o (λ s. coefficient-by s resistances) (subrange_named resistances.subrange.0) s
 
 -- ---- one answer
-stated_unique : (x y : FaultyCell) → stated_cell x ≡ stated_cell y → x ≡ y
-stated_unique x y e = sym (is x) ∙ ap back e ∙ is y
-  where
-    back : Option Cell → FaultyCell
-    back none = Nowhere
-    back (some p) = At p
+pub one_faulty_cell : (ratios : Record) (x y : Option Cell) → x ≡ cell_at_fault ratios → y ≡ cell_at_fault ratios → x ≡ y
+one_faulty_cell ratios x y e f = e ∙ sym f
 
-    is : (x : FaultyCell) → back (stated_cell x) ≡ x
-    is (At p) = refl
-    is Nowhere = refl
-
-pub one_faulty_cell : (ratios : Record) (x y : FaultyCell) → stated_cell x ≡ cell_at_fault ratios → stated_cell y ≡ cell_at_fault ratios → x ≡ y
-one_faulty_cell ratios x y e f = stated_unique x y (e ∙ sym f)
-
-pub one_faulty_cell_by : (resistances : Resistances) (x y : FaultyCell) → stated_cell x ≡ cell_at_fault_by resistances → stated_cell y ≡ cell_at_fault_by resistances → x ≡ y
-one_faulty_cell_by resistances x y e f = stated_unique x y (e ∙ sym f)
+pub one_faulty_cell_by : (resistances : Resistances) (x y : Option Cell) → x ≡ cell_at_fault_by resistances → y ≡ cell_at_fault_by resistances → x ≡ y
+one_faulty_cell_by resistances x y e f = e ∙ sym f

@@ -7,3 +7,4 @@ pub mod AsRatios
 pub mod Firsts
 pub mod AtFault
 pub mod Widening
+pub mod Few

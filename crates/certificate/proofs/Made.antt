@@ -2,14 +2,14 @@
 use mathlib.Core.Path.{◌≡◌, refl, sym, ap, subst}
 use mathlib.Core.Bool.{Bool, true, false, false≢true, ◌&&◌, ◌||◌, not}
 use mathlib.Core.List.{List, [], ◌∷◌, map}
-use mathlib.Core.Option.{Option, none, some}
+use Rattle.std.specs.Prelude.{Option, None, Some}
 use Prim.Native.Nat.{ℕ, suc, ◌≤◌}
 use native.Mathlib.Omega.{arith}
 use borrow.Author.Tests.{le-leb}
 use lib.Dec.{leb, eqb}
 use lib.IntN.{ℤ, nat_abs}
 use lib.ListN.{length}
-use Rattle.whole.specs.Any.{any}
+use Rattle.std.specs.List.{list_any}
 use Rattle.whole.specs.Choice.{if◌then◌otherwise◌}
 use Rattle.whole.proofs.Any.{Member, of_any, or_false}
 use Rattle.quantity.specs.Quantities.{largest_ratio}
@@ -71,7 +71,7 @@ or_true false b p e = absurd (false≢true p)
 
 needs_aluminium : (s : Subrange) → to_silver (carried s).form ≡ true → Member Al (cells s)
 needs_aluminium s e =
-    let w = of_any is_aluminium (cells s) (or_true (to_silver (carried s).form) (any is_aluminium (cells s)) e (every_subrange (λ (s : Subrange). not (to_silver (carried s).form) || any is_aluminium (cells s)) refl s)) in
+    let w = of_any is_aluminium (cells s) (or_true (to_silver (carried s).form) (list_any is_aluminium (cells s)) e (every_subrange (λ (s : Subrange). not (to_silver (carried s).form) || list_any is_aluminium (cells s)) refl s)) in
     subst (λ (p : Cell). Member p (cells s)) (aluminium_is w.0 w.2) w.1
 
 -- ---- a certificate whose tests were passed
@@ -119,8 +119,8 @@ pub record_sound : MadeSound
 record_sound ratios k = by (subrange_named ratios.subrange.0)
   where
     by : (named : Option Subrange) → Follows (if_named no_places named (λ s. record_of s ratios)) (answered (held k)) → sound k ≡ true
-    by none e = absurd (let z : ◌≡◌ {A = ℕ} 0 3 = ap (λ (o : Outcome LawAndPlaces). o.code) e in omega arith)
-    by (some s) h = tested_sound s ratios k h
+    by None e = absurd (let z : ◌≡◌ {A = ℕ} 0 3 = ap (λ (o : Outcome LawAndPlaces). o.code) e in omega arith)
+    by (Some s) h = tested_sound s ratios k h
 
 -- its coefficients keep their limit, and W(Al) is a ratio of the record
 pub record Sized (k : Places) : Type 0 where
@@ -137,7 +137,7 @@ made-sized s ratios e =
     by above false = omega arith
 
 -- a sound certificate is accepted
-sound_accepted : (law : Law) (k : Certificate) → k.law ≡ law → sound k ≡ true → (named : Option Law) → named ≡ some law → Follows (if_named no_places named (λ law. given_by law (given_of k))) (answered (held k))
+sound_accepted : (law : Law) (k : Certificate) → k.law ≡ law → sound k ≡ true → (named : Option Law) → named ≡ Some law → Follows (if_named no_places named (λ law. given_by law (given_of k))) (answered (held k))
 sound_accepted law k is e named n = rw (n, ← is, e) (refl, refl)
 
 pub record_accepted : MadeAccepted

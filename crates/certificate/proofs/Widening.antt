@@ -3,7 +3,7 @@ use mathlib.Core.Path.{◌≡◌, refl, sym, ◌∙◌}
 use mathlib.Core.Bool.{Bool, true, false, ◌&&◌, not}
 use mathlib.Core.List.{List, [], ◌∷◌}
 use Prim.Native.Nat.{ℕ, ◌≤◌}
-use Rattle.whole.specs.Any.{any}
+use Rattle.std.specs.List.{list_any}
 use Rattle.whole.proofs.Any.{or_false}
 use Rattle.quantity.specs.Quantities.{is_reading_up_to, is_divisor_up_to}
 use Rattle.quantity.proofs.Widening.{not-outside, ones-move, named_move}
@@ -27,10 +27,10 @@ module _ (largest larger : ℕ) (h : largest ≤ larger) where
       by false e = refl
       by true e = not-outside largest larger h p.r.0 p.r0.0 e
 
-  cells-inside : (resistances : Resistances) (cells : List Cell) → any (cell_outside_up_to largest resistances) cells ≡ false → any (cell_outside_up_to larger resistances) cells ≡ false
+  cells-inside : (resistances : Resistances) (cells : List Cell) → list_any (cell_outside_up_to largest resistances) cells ≡ false → list_any (cell_outside_up_to larger resistances) cells ≡ false
   cells-inside resistances [] e = refl
   cells-inside resistances (p ∷ ps) e =
-      let both = or_false (cell_outside_up_to largest resistances p) (any (cell_outside_up_to largest resistances) ps) e in
+      let both = or_false (cell_outside_up_to largest resistances p) (list_any (cell_outside_up_to largest resistances) ps) e in
       rw (pair_inside (pair resistances p) both.0, cells-inside resistances ps both.1) refl
 
   all-inside : (resistances : Resistances) → outside_up_to largest resistances ≡ false → outside_up_to larger resistances ≡ false

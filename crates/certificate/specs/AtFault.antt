@@ -1,6 +1,6 @@
 -- The cell at fault: of the test by which a record is refused, the first cell that fails it.
-use Rattle.std.specs.Prelude.{Bool, false, ◌&&◌, not, List, [], ◌∷◌, ℕ, eqb}
-use Rattle.std.proofs.Math.Option.{Option, none, some}
+use Rattle.std.specs.Prelude.{Bool, false, ◌&&◌, not, List, [], ◌∷◌, ℕ, eqb, Option, None, Some}
+use Rattle.std.specs.List.{find}
 use Rattle.whole.specs.Choice.{if◌then◌otherwise◌}
 use Rattle.quantity.specs.Outcomes.{number_given}
 use Rattle.purity.specs.Purity.{by_gallium_or_mercury, by_silver}
@@ -11,15 +11,8 @@ use Rattle.law.specs.Cells.{all_cells}
 use Rattle.law.specs.Subranges.{carried, cells, to_silver, subrange_named}
 use Rattle.certificate.specs.declared.record.Record.{Record}
 use Rattle.certificate.specs.declared.resistances.Resistances.{Resistances}
-use Rattle.certificate.specs.declared.fault.FaultyCell.{FaultyCell}
-use Rattle.certificate.specs.declared.fault.FaultyCell.TheVariants.{At, Nowhere}
 use Rattle.certificate.specs.Record.{ratio, measured, is_above, is_missing, cell_deviates, record_of}
 use Rattle.certificate.specs.Resistances.{cell_outside, ratios_of, resistances_of}
-
--- Of a list, the first cell of which something holds.
-abbrev pub first : (Cell → Bool) → List Cell → Option Cell
-first holds [] = none
-first holds (p ∷ ps) = if holds p then some p otherwise first holds ps
 
 -- Neither W(Ga) nor W(Hg) meets its relation.
 abbrev pub neither_met : Record → Bool
@@ -40,11 +33,11 @@ breaks_purity s ratios cell.Ag = to_silver (carried s).form && not (by_silver (r
 -- that is not here.
 abbrev pub cell_for : Subrange → Record → ℕ → Option Cell
 cell_for s ratios number =
-    if eqb number 2 then first (is_above ratios) all_cells
-    otherwise if eqb number 4 then first (is_missing ratios) (cells s)
-    otherwise if eqb number 6 then first (breaks_purity s ratios) all_cells
-    otherwise if eqb number 7 then first (cell_deviates ratios) all_cells
-    otherwise none
+    if eqb number 2 then find (is_above ratios) all_cells
+    otherwise if eqb number 4 then find (is_missing ratios) (cells s)
+    otherwise if eqb number 6 then find (breaks_purity s ratios) all_cells
+    otherwise if eqb number 7 then find (cell_deviates ratios) all_cells
+    otherwise None
 
 -- By the number that the tests of a record of a known subrange give. Where 7 is given for a coefficient, no cell deviates, and there is none.
 unfoldable pub at_fault : Subrange → Record → Option Cell
@@ -52,29 +45,18 @@ at_fault s ratios = cell_for s ratios (number_given (record_of s ratios).tests)
 
 -- The same by resistances, which have 1 besides.
 abbrev pub cell_for_by : Subrange → Resistances → ℕ → Option Cell
-cell_for_by s resistances number = if eqb number 1 then first (cell_outside resistances) all_cells otherwise cell_for s (ratios_of resistances) number
+cell_for_by s resistances number = if eqb number 1 then find (cell_outside resistances) all_cells otherwise cell_for s (ratios_of resistances) number
 
 unfoldable pub at_fault_by : Subrange → Resistances → Option Cell
 at_fault_by s resistances = cell_for_by s resistances (number_given (resistances_of s resistances).tests)
 
 -- None where no subrange has the name that is given.
 abbrev pub of_named : Option Subrange → (Subrange → Option Cell) → Option Cell
-of_named none fault = none
-of_named (some s) fault = fault s
+of_named None fault = None
+of_named (Some s) fault = fault s
 
 unfoldable pub cell_at_fault : Record → Option Cell
 cell_at_fault ratios = of_named (subrange_named ratios.subrange.0) (λ s. at_fault s ratios)
 
 unfoldable pub cell_at_fault_by : Resistances → Option Cell
 cell_at_fault_by resistances = of_named (subrange_named resistances.subrange.0) (λ s. at_fault_by s resistances)
-
--- What each case of the code's answer stands for.
-abbrev pub stated_cell : FaultyCell → Option Cell
-stated_cell (At p) = some p
-stated_cell Nowhere = none
-
--- ---- what an inner function answers
--- The cell found before, else this one where something holds of it.
-abbrev pub found_or : Option Cell → Cell → Bool → Option Cell
-found_or (some found) p holds = some found
-found_or none p holds = if holds then some p otherwise none

@@ -1,6 +1,5 @@
 -- A certificate, whether it is sound, and what is answered to a given one.
-use Rattle.std.specs.Prelude.{◌≡◌, Bool, ◌&&◌, not, List, [], ◌∷◌, ℕ, leb, ltb, eqb, ℤ, pos, nat_abs}
-use Rattle.std.proofs.Math.Option.{Option, none, some}
+use Rattle.std.specs.Prelude.{◌≡◌, Bool, ◌&&◌, not, List, [], ◌∷◌, ℕ, leb, ltb, eqb, ℤ, pos, nat_abs, Option, None, Some, Err, Ok, Result}
 use Rattle.whole.specs.Choice.{if◌then◌otherwise◌}
 use Rattle.quantity.specs.Refusals.{number_of}
 use Rattle.quantity.specs.Outcomes.{Outcome, answered, refused, Test, ◌gives◌, Rule, if_named}
@@ -12,8 +11,7 @@ use Rattle.deviation.specs.declared.places.Places.{Places}
 use Rattle.deviation.specs.Limits.{within, largest_coefficient}
 use Rattle.certificate.specs.declared.soundness.Given.{Given}
 use Rattle.certificate.specs.declared.soundness.Certificate.{Certificate}
-use Rattle.certificate.specs.declared.soundness.CertificateAnswer.{CertificateAnswer}
-use Rattle.certificate.specs.declared.soundness.CertificateAnswer.TheVariants as answer
+use Rattle.quantity.specs.declared.refusal.Refusal.{Refusal}
 
 -- Places 0 to 3 are a to d. Each of the first `used` keeps the limit, any other holds 0.
 abbrev pub place_kept : ℕ → ℕ → ℤ → Bool
@@ -47,15 +45,15 @@ pub record LawAndPlaces : Type 0 where
   pub places : Places
 
 abbrev pub no_places : LawAndPlaces
-no_places = record { law = none; places = record { a = pos 0; b = pos 0; c = pos 0; d = pos 0; wal = record { 0 = 0 } } }
+no_places = record { law = None; places = record { a = pos 0; b = pos 0; c = pos 0; d = pos 0; wal = record { 0 = 0 } } }
 
 abbrev pub held : Certificate → LawAndPlaces
-held k = record { law = some k.law; places = k.places }
+held k = record { law = Some k.law; places = k.places }
 
 -- What each case of an answer stands for.
-abbrev pub stated : CertificateAnswer → Outcome LawAndPlaces
-stated (answer.Certificate k) = answered (held k)
-stated (answer.Refused why) = refused no_places (number_of why)
+abbrev pub stated : Result Certificate Refusal → Outcome LawAndPlaces
+stated (Ok k) = answered (held k)
+stated (Err why) = refused no_places (number_of why)
 
 -- Of a known law: 7, else the certificate itself.
 abbrev pub given_by : Law → Given → Rule LawAndPlaces

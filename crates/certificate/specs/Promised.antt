@@ -1,7 +1,6 @@
 -- What is promised of certificates besides their answers.
-use Rattle.std.specs.Prelude.{◌≡◌, Bool, true, false, List, [], ◌∷◌, ℕ, eqb}
-use Rattle.std.proofs.Math.Option.{none, some}
-use Rattle.whole.specs.Any.{any}
+use Rattle.std.specs.Prelude.{◌≡◌, Bool, true, false, List, [], ◌∷◌, ℕ, eqb, None, Some}
+use Rattle.std.specs.List.{list_any}
 use Rattle.quantity.specs.Outcomes.{Outcome, answered, Follows}
 use Rattle.quantity.specs.Promised.{Widens}
 use Rattle.law.specs.declared.cell.Cell.{Cell}
@@ -50,41 +49,41 @@ ResistancesWiden = (resistances : Resistances) → Widens (λ largest. resistanc
 
 -- ---- the cell at fault
 abbrev pub among : List ℕ → ℕ → Bool
-among numbers n = any (eqb n) numbers
+among numbers n = list_any (eqb n) numbers
 
 -- A record that is refused by 2, 4 or 6 has a cell at fault.
 abbrev pub FaultFound : Type 0
 FaultFound =
     (ratios : Record) (o : Outcome LawAndPlaces) → Follows (record_rule ratios) o → among (2 ∷ 4 ∷ 6 ∷ []) o.code ≡ true
-    → (p : Cell) × (cell_at_fault ratios ≡ some p)
+    → (p : Cell) × (cell_at_fault ratios ≡ Some p)
 
 -- One that is accepted has none, nor has one that is refused by 3 or 5.
 abbrev pub NoneAtFault : Type 0
 NoneAtFault =
     (ratios : Record) (o : Outcome LawAndPlaces) → Follows (record_rule ratios) o → among (0 ∷ 3 ∷ 5 ∷ []) o.code ≡ true
-    → cell_at_fault ratios ≡ none
+    → cell_at_fault ratios ≡ None
 
 -- The same of resistances, which have one where they are refused by 1 too.
 abbrev pub FaultFoundBy : Type 0
 FaultFoundBy =
     (resistances : Resistances) (o : Outcome LawAndPlaces) → Follows (resistances_rule resistances) o → among (1 ∷ 2 ∷ 4 ∷ 6 ∷ []) o.code ≡ true
-    → (p : Cell) × (cell_at_fault_by resistances ≡ some p)
+    → (p : Cell) × (cell_at_fault_by resistances ≡ Some p)
 
 abbrev pub NoneAtFaultBy : Type 0
 NoneAtFaultBy =
     (resistances : Resistances) (o : Outcome LawAndPlaces) → Follows (resistances_rule resistances) o → among (0 ∷ 3 ∷ 5 ∷ []) o.code ≡ true
-    → cell_at_fault_by resistances ≡ none
+    → cell_at_fault_by resistances ≡ None
 
 -- A record that is refused by 7 and has no cell at fault has no cell whose deviation is beyond its limit: it is a coefficient that is beyond its own.
 abbrev pub CoefficientAtFault : Type 0
 CoefficientAtFault =
-    (ratios : Record) (s : Subrange) (o : Outcome LawAndPlaces) → subrange_named ratios.subrange.0 ≡ some s → Follows (record_rule ratios) o → o.code ≡ 7
-    → cell_at_fault ratios ≡ none
+    (ratios : Record) (s : Subrange) (o : Outcome LawAndPlaces) → subrange_named ratios.subrange.0 ≡ Some s → Follows (record_rule ratios) o → o.code ≡ 7
+    → cell_at_fault ratios ≡ None
     → (deviates ratios ≡ false) × (beyond (fitted ratios (cells s)) ≡ true)
 
 -- The same of resistances, by their ratios.
 abbrev pub CoefficientAtFaultBy : Type 0
 CoefficientAtFaultBy =
-    (resistances : Resistances) (s : Subrange) (o : Outcome LawAndPlaces) → subrange_named resistances.subrange.0 ≡ some s → Follows (resistances_rule resistances) o → o.code ≡ 7
-    → cell_at_fault_by resistances ≡ none
+    (resistances : Resistances) (s : Subrange) (o : Outcome LawAndPlaces) → subrange_named resistances.subrange.0 ≡ Some s → Follows (resistances_rule resistances) o → o.code ≡ 7
+    → cell_at_fault_by resistances ≡ None
     → (deviates (ratios_of resistances) ≡ false) × (beyond (fitted (ratios_of resistances) (cells s)) ≡ true)

@@ -1,6 +1,6 @@
 -- From a record of cell ratios to a certificate, or the number given instead.
 use Rattle.std.specs.Prelude.{Bool, ◌&&◌, ◌||◌, not, ◌≡◌, List, [], ◌∷◌, map, ℕ, ltb}
-use Rattle.whole.specs.Any.{any}
+use Rattle.std.specs.List.{list_any}
 use Rattle.whole.specs.Choice.{if◌then◌otherwise◌}
 use Rattle.quantity.specs.Quantities.{largest_ratio}
 use Rattle.quantity.specs.Outcomes.{◌gives◌, Rule, if_named}
@@ -44,11 +44,11 @@ cell_deviates ratios p = measured ratios p && not (within (Wr p) (ratio ratios p
 
 -- 2: a ratio above 4.4, of any cell.
 unfoldable pub ratio_above : Record → Bool
-ratio_above ratios = any (is_above ratios) all_cells
+ratio_above ratios = list_any (is_above ratios) all_cells
 
 -- 4: a cell of the subrange not measured.
 unfoldable pub cell_missing : Record → List Cell → Bool
-cell_missing ratios needed = any (is_missing ratios) needed
+cell_missing ratios needed = list_any (is_missing ratios) needed
 
 -- 5: neither Ga nor Hg measured.
 unfoldable pub purity_cell_missing : Record → Bool
@@ -60,7 +60,7 @@ impure s ratios = not (pure (to_silver (carried s).form) (ratio ratios cell.Hg) 
 
 -- 7: the deviation of a cell given, used or not, is beyond its limit.
 unfoldable pub deviates : Record → Bool
-deviates ratios = any (cell_deviates ratios) all_cells
+deviates ratios = list_any (cell_deviates ratios) all_cells
 
 -- A cell's x and δ.
 abbrev pub point : Record → Cell → Point

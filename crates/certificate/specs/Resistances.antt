@@ -1,6 +1,6 @@
 -- From a record given as resistances to a certificate, or the number given instead.
 use Rattle.std.specs.Prelude.{Bool, ◌&&◌, not, ◌∷◌, ℕ, eqb}
-use Rattle.whole.specs.Any.{any}
+use Rattle.std.specs.List.{list_any}
 use Rattle.whole.specs.Choice.{if◌then◌otherwise◌}
 use Rattle.quantity.specs.Quantities.{largest_resistance, is_reading_up_to, is_divisor_up_to, ratio_of}
 use Rattle.quantity.specs.Outcomes.{◌gives◌, Rule, if_named}
@@ -48,7 +48,7 @@ cell_outside = cell_outside_up_to largest_resistance
 
 -- 1: any of the seven is such a cell.
 unfoldable pub outside_up_to : ℕ → Resistances → Bool
-outside_up_to largest resistances = any (cell_outside_up_to largest resistances) all_cells
+outside_up_to largest resistances = list_any (cell_outside_up_to largest resistances) all_cells
 
 abbrev pub outside : Resistances → Bool
 outside = outside_up_to largest_resistance

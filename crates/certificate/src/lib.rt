@@ -6,7 +6,6 @@ mod record;
 mod resistances;
 mod soundness;
 
-pub use fault::FaultyCell;
 pub use record::Record;
 pub use resistances::{Pair, Resistances};
-pub use soundness::{Certificate, CertificateAnswer, Given};
+pub use soundness::{Certificate, Given};

@@ -1,22 +1,20 @@
 // A record of cell ratios, its tests in their order, and the certificate that it yields.
-ghost use Rattle.std.specs.Prelude.{◌≡◌, false, map, ltb};
-ghost use Rattle.quantity.specs.Quantities.{largest_ratio};
+ghost use Rattle.std.specs.Prelude.{◌≡◌, ◌≤◌, false, length, map};
 ghost use Rattle.law.specs.Subranges.{cells};
-ghost use Rattle.law.specs.Listed.{listed};
 ghost use Rattle.fit.specs.Room.{Roomy, StandFor};
 ghost use Rattle.quantity.specs.Outcomes.{Follows};
 ghost use Rattle.certificate.specs.Certificate.{stated};
-ghost use Rattle.certificate.specs.Record.{ratio as ratio_of, measured as measured_by, ratio_above, cell_missing, purity_cell_missing, impure as impure_by, cell_deviates, deviates as deviates_by, point as point_of, fitted as fitted_by, aluminium_ratio, record_of, record_rule};
+ghost use Rattle.certificate.specs.Record.{ratio as ratio_of, measured as measured_by, is_above, is_missing, ratio_above, cell_missing, purity_cell_missing, impure as impure_by, cell_deviates, deviates as deviates_by, point as point_of, fitted as fitted_by, aluminium_ratio, record_of, record_rule};
 
-use crate::soundness::{Certificate, CertificateAnswer};
+use crate::soundness::Certificate;
 use deviation::{Places, cell_deviation, offset, within};
 use fit::{Point, beyond, of_four, of_one, of_three, of_two};
-use law::{Cell, Cells, Law, Name, NamedSubrange, Subrange};
+use law::{Cell, Law, Name, Subrange};
 use purity::is_pure;
 use quantity::{Ratio, Refusal};
 
 // The subrange by its name, and a ratio for each cell, 0 where it was not measured.
-#[derive(Clone, Copy)]
+#[derive(Clone, Copy, Debug, PartialEq, Eq)]
 pub struct Record {
     pub subrange: Name,
     pub mercury: Ratio,
@@ -26,12 +24,6 @@ pub struct Record {
     pub zinc: Ratio,
     pub aluminium: Ratio,
     pub silver: Ratio,
-}
-
-pub(crate) fn above(w: Ratio) -> bool
-    ensures { result ≡ ltb largest_ratio w.0 }
-{
-    quantity::LARGEST_RATIO < w.0
 }
 
 impl Record {
@@ -62,36 +54,35 @@ impl Record {
     pub(crate) fn measured(self, cell: Cell) -> bool
         ensures { result ≡ measured_by self cell }
     {
-        let w = self.ratio(cell);
-        0 < w.0
+        0 < self.ratio(cell).0
+    }
+
+    pub(crate) fn is_above(self, cell: Cell) -> bool
+        ensures { result ≡ is_above self cell }
+    {
+        quantity::LARGEST_RATIO < self.ratio(cell).0
+    }
+
+    pub(crate) fn is_missing(self, cell: Cell) -> bool
+        ensures { result ≡ is_missing self cell }
+    {
+        !self.measured(cell)
     }
 
     // Whether any ratio is above 4.4.
+    #[tactic(auto, unfolding(crate::specs::Record::ratio_above))]
     pub(crate) fn ratio_above(self) -> bool
         ensures { result ≡ ratio_above self }
     {
-        above(self.mercury)
-            | above(self.gallium)
-            | above(self.indium)
-            | above(self.tin)
-            | above(self.zinc)
-            | above(self.aluminium)
-            | above(self.silver)
+        Cell::ALL.iter().any(|cell| self.is_above(*cell))
     }
 
     // Whether a cell that the subrange needs was not measured.
-    pub(crate) fn cell_missing(self, needed: Cells) -> bool
-        ensures { result ≡ cell_missing self (listed needed) }
+    #[tactic(auto, unfolding(crate::specs::Record::cell_missing))]
+    pub(crate) fn cell_missing(self, needed: &[Cell]) -> bool
+        ensures { result ≡ cell_missing self needed.now }
     {
-        match needed {
-            Cells::One(p) => !self.measured(p),
-            Cells::Two(p, q) => !self.measured(p) | !self.measured(q),
-            Cells::Three(p, q, r) => !self.measured(p) | !self.measured(q) | !self.measured(r),
-            Cells::Four(p, q, r, s) => !self.measured(p)
-                | !self.measured(q)
-                | !self.measured(r)
-                | !self.measured(s),
-        }
+        needed.iter().any(|cell| self.is_missing(*cell))
     }
 
     pub(crate) fn purity_cell_missing(self) -> bool
@@ -105,10 +96,7 @@ impl Record {
         ensures { result ≡ impure_by subrange self }
     {
         let to_silver = subrange.form().to_silver();
-        let mercury = self.mercury;
-        let gallium = self.gallium;
-        let silver = self.silver;
-        !is_pure(to_silver, mercury, gallium, silver)
+        !is_pure(to_silver, self.mercury, self.gallium, self.silver)
     }
 
     // Whether a cell was measured and its deviation is beyond its limit.
@@ -118,16 +106,11 @@ impl Record {
         self.measured(cell) & !within(cell.reference(), self.ratio(cell))
     }
 
+    #[tactic(auto, unfolding(crate::specs::Record::deviates))]
     fn deviates(self) -> bool
         ensures { result ≡ deviates_by self }
     {
-        self.cell_deviates(Cell::Hg)
-            | self.cell_deviates(Cell::Ga)
-            | self.cell_deviates(Cell::In)
-            | self.cell_deviates(Cell::Sn)
-            | self.cell_deviates(Cell::Zn)
-            | self.cell_deviates(Cell::Al)
-            | self.cell_deviates(Cell::Ag)
+        Cell::ALL.iter().any(|cell| self.cell_deviates(*cell))
     }
 
     fn point(self, cell: Cell) -> Point
@@ -141,76 +124,66 @@ impl Record {
         }
     }
 
-    // The coefficients from the used cells.
-    fn fitted(self, used: Cells) -> Places
-        requires { (ratio_above self ≡ false) × Roomy (map (point_of self) (listed used)) }
-        ensures { StandFor result (fitted_by self (listed used)) }
+    // The coefficients from the used cells, of which there are one to four.
+    fn fitted(self, used: &[Cell]) -> Places
+        requires above { ratio_above self ≡ false }
+        requires few { (1 ≤ length used.now) × (length used.now ≤ 4) }
+        requires room { Roomy (map (point_of self) used.now) }
+        ensures { StandFor result (fitted_by self used.now) }
     {
-        match used {
-            Cells::One(p) => of_one(self.point(p)),
-            Cells::Two(p, q) => of_two(self.point(p), self.point(q)),
-            Cells::Three(p, q, r) => of_three(self.point(p), self.point(q), self.point(r)),
-            Cells::Four(p, q, r, s) => of_four(
-                self.point(p),
-                self.point(q),
-                self.point(r),
-                self.point(s),
-            ),
+        match *used {
+            [p] => of_one(self.point(p)),
+            [p, q] => of_two(self.point(p), self.point(q)),
+            [p, q, r] => of_three(self.point(p), self.point(q), self.point(r)),
+            [p, q, r, s] => of_four(self.point(p), self.point(q), self.point(r), self.point(s)),
+            _ => unreachable!(),
         }
     }
 
     // Where every test but the last is passed: refused for a coefficient, or the certificate.
-    fn certified(self, subrange: Subrange) -> CertificateAnswer
+    fn certified(self, subrange: Subrange) -> Result<Certificate, Refusal>
         requires { (ratio_above self ≡ false) × (cell_missing self (cells subrange) ≡ false) × (purity_cell_missing self ≡ false) × (impure_by subrange self ≡ false) × (deviates_by self ≡ false) }
         ensures { Follows (record_of subrange self) (stated result) }
     {
         let k = self.fitted(subrange.cells());
         if beyond(k) {
-            return CertificateAnswer::Refused(Refusal::BeyondLimit);
+            return Err(Refusal::BeyondLimit);
         }
         let wal = self.aluminium_ratio(subrange);
-        CertificateAnswer::Certificate(Certificate {
+        Ok(Certificate {
             law: Law::Scale(subrange),
-            places: Places {
-                a: k.a,
-                b: k.b,
-                c: k.c,
-                d: k.d,
-                wal,
-            },
+            places: Places { wal, ..k },
         })
     }
 
-    fn tested(self, subrange: Subrange) -> CertificateAnswer
+    fn tested(self, subrange: Subrange) -> Result<Certificate, Refusal>
         ensures { Follows (record_of subrange self) (stated result) }
     {
         let above = self.ratio_above();
         let missing = self.cell_missing(subrange.cells());
         if above {
-            return CertificateAnswer::Refused(Refusal::RatioAbove);
+            return Err(Refusal::RatioAbove);
         }
         if missing {
-            return CertificateAnswer::Refused(Refusal::CellNotMeasured);
+            return Err(Refusal::CellNotMeasured);
         }
         if self.purity_cell_missing() {
-            return CertificateAnswer::Refused(Refusal::PurityCellNotMeasured);
+            return Err(Refusal::PurityCellNotMeasured);
         }
         if self.impure(subrange) {
-            return CertificateAnswer::Refused(Refusal::Impure);
+            return Err(Refusal::Impure);
         }
         if self.deviates() {
-            return CertificateAnswer::Refused(Refusal::BeyondLimit);
+            return Err(Refusal::BeyondLimit);
         }
         self.certified(subrange)
     }
 
     // The certificate that the record yields, or why there is none.
-    pub fn certify(self) -> CertificateAnswer
+    pub fn certify(self) -> Result<Certificate, Refusal>
         ensures { Follows (record_rule self) (stated result) }
     {
-        match Subrange::named(self.subrange) {
-            NamedSubrange::Unknown => CertificateAnswer::Refused(Refusal::NameUnknown),
-            NamedSubrange::Known(subrange) => self.tested(subrange),
-        }
+        let subrange = Subrange::named(self.subrange).ok_or(Refusal::NameUnknown)?;
+        self.tested(subrange)
     }
 }

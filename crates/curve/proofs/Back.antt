@@ -1,6 +1,6 @@
 -- What a ratio reads, from two neighbouring steps; and the ratio of a step, read again, also as two resistances.
 use mathlib.Core.Path.{◌≡◌}
-use mathlib.Core.Option.{some}
+use Rattle.std.specs.Prelude.{Some}
 use Prim.Native.Nat.{ℕ, ◌+◌, ◌*◌, ◌<◌, ◌≤◌, ◌^◌}
 use native.Mathlib.Decide.{dec_lt}
 use native.Mathlib.Omega.{arith}
@@ -86,5 +86,5 @@ set_reads_back r r0 step o p q f d l x =
     let w = o.answer.ratio in
     let back = reads_back step o p q f in
     let read : (t : ℤ) → Reads (read_ratio w) t → Reads (read_resistances r r0) t =
-    λ t h. (reads_their_ratio r r0 (answered (record { law = some Curve; step = t })) d).0 (rw (set_has_ratio r r0 w l x) h) in
+    λ t h. (reads_their_ratio r r0 (answered (record { law = Some Curve; step = t })) d).0 (rw (set_has_ratio r r0 w l x) h) in
     record { same = λ e. read step (back.same e); below = λ e. read (step -ℤ pos 1) (back.below e) }

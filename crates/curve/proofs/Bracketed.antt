@@ -2,7 +2,7 @@
 use mathlib.Core.Path.{◌≡◌, refl, sym, ◌∙◌, ap, subst}
 use mathlib.Core.Bool.{true}
 use mathlib.Core.List.{◌++◌}
-use mathlib.Core.Option.{Option, none, some}
+use Rattle.std.specs.Prelude.{Option, None, Some}
 use Prim.Native.Nat.{ℕ, ◌+◌, ◌*◌, ◌≤◌}
 use native.Mathlib.Nat.{mul-le-mul_right}
 use native.Mathlib.Omega.{arith}
@@ -19,7 +19,7 @@ use Rattle.law.specs.Ranges.{value_tests, step_tests}
 use Rattle.curve.specs.declared.tolerance.Class.{Class}
 use Rattle.curve.specs.Curve.{exact, per_unit, units, first, last}
 use Rattle.curve.specs.Ways.{range, read_resistances}
-use Rattle.curve.specs.Tolerance.{Result, no_result, class_named, test_by_class}
+use Rattle.curve.specs.Tolerance.{LawAndResult, no_result, class_named, test_by_class}
 use Rattle.curve.specs.Promised.{Bracketed, ReadsBracketed, TestsBracketed}
 
 -- ---- a reading
@@ -50,18 +50,18 @@ reads_bracketed r r0 o h z =
     bracketed_read r r0 o.answer.step a.0 a.1.1
 
 -- ---- a tolerance test
-tests_class : (class : Class) (bath : ℤ) (r r0 : ℕ) (o : Outcome Result) → Follows (test_by_class class bath r r0) o → o.code ≡ 0 → Bracketed r r0 (bath +ℤ o.answer.error)
+tests_class : (class : Class) (bath : ℤ) (r r0 : ℕ) (o : Outcome LawAndResult) → Follows (test_by_class class bath r r0) o → o.code ≡ 0 → Bracketed r r0 (bath +ℤ o.answer.error)
 tests_class class bath r r0 o h z =
     let a = answer-follows (test_by_class class bath r r0) o z h in
     let later = (both_pass (step_tests first class.top bath) (ratio_tests r r0 ++ value_tests range (units (ratio_of r r0))) refl a.0).1 in
     let step = a.1.0 in
     let same : bath +ℤ (step -ℤ bath) ≡ step = omega (ints, sub_parts step bath, add_parts bath (step -ℤ bath)) in
-    let back : bath +ℤ o.answer.error ≡ step = ap (λ (x : Result). bath +ℤ x.error) a.1.2 ∙ same in
+    let back : bath +ℤ o.answer.error ≡ step = ap (λ (x : LawAndResult). bath +ℤ x.error) a.1.2 ∙ same in
     subst (Bracketed r r0) (sym back) (bracketed_read r r0 step later a.1.1)
 
 pub tests_bracketed : TestsBracketed
 tests_bracketed letter bath r r0 o h z = by (class_named letter) h
   where
     by : (named : Option Class) → Follows (if_named no_result named (λ class. test_by_class class bath r r0)) o → Bracketed r r0 (bath +ℤ o.answer.error)
-    by none g = absurd (let c : ◌≡◌ {A = ℕ} 3 0 = sym (ap (λ (o : Outcome Result). o.code) g) ∙ z in omega arith)
-    by (some class) g = tests_class class bath r r0 o g z
+    by None g = absurd (let c : ◌≡◌ {A = ℕ} 3 0 = sym (ap (λ (o : Outcome LawAndResult). o.code) g) ∙ z in omega arith)
+    by (Some class) g = tests_class class bath r r0 o g z

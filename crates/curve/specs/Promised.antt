@@ -1,6 +1,5 @@
 -- What is promised of the curve besides its answers.
-use Rattle.std.specs.Prelude.{◌≡◌, true, ◌&&◌, ℕ, ◌+◌, ◌*◌, ◌≤◌, ◌^◌, ℤ, pos, ◌+ℤ◌, ◌-ℤ◌, ◌*ℤ◌, ◌≤ℤ◌, ◌<ℤ◌}
-use Rattle.std.proofs.Math.Option.{some}
+use Rattle.std.specs.Prelude.{◌≡◌, true, ◌&&◌, ℕ, ◌+◌, ◌*◌, ◌≤◌, ◌^◌, ℤ, pos, ◌+ℤ◌, ◌-ℤ◌, ◌*ℤ◌, ◌≤ℤ◌, ◌<ℤ◌, Some}
 use Rattle.quantity.specs.Quantities.{is_reading, is_divisor, one, ratio_of}
 use Rattle.quantity.specs.Outcomes.{Outcome, answered, Rule, Follows}
 use Rattle.quantity.specs.Promised.{SetTo, Widens}
@@ -8,7 +7,7 @@ use Rattle.law.specs.declared.laws.Law.TheVariants.{Curve}
 use Rattle.law.specs.Answers.{LawAndStep, LawAndRatio}
 use Rattle.curve.specs.Curve.{standard, exact, per_unit, units, first, last, past_last}
 use Rattle.curve.specs.Ways.{read_ratio, read_resistances_up_to, read_resistances, forward_step}
-use Rattle.curve.specs.Tolerance.{Result, tolerance_test_up_to, tolerance_test}
+use Rattle.curve.specs.Tolerance.{LawAndResult, tolerance_test_up_to, tolerance_test}
 
 -- The exact ratio in whole numbers is the standard's formula times 10^31, multiplied out.
 abbrev pub ExactIsStandard : Type 0
@@ -24,7 +23,7 @@ Climbs = (step : ℤ) → first ≤ℤ step → step ≤ℤ last → (exact step
 
 -- By a rule a step is read.
 abbrev pub Reads : Rule LawAndStep → ℤ → Type 0
-Reads rule step = Follows rule (answered (record { law = some Curve; step = step }))
+Reads rule step = Follows rule (answered (record { law = Some Curve; step = step }))
 
 -- A step's ratio w read again, by a rule: it is that step where the exact ratio has no more than nine decimals, and the one below where rounding went under it.
 pub record ReadBack (rule : Rule LawAndStep) (step : ℤ) (w : ℕ) : Type 0 where
@@ -61,7 +60,7 @@ ReadsBracketed = (r r0 : ℕ) (o : Outcome LawAndStep) → Follows (read_resista
 
 abbrev pub TestsBracketed : Type 0
 TestsBracketed =
-    (letter : ℕ) (bath : ℤ) (r r0 : ℕ) (o : Outcome Result) → Follows (tolerance_test letter bath r r0) o → o.code ≡ 0
+    (letter : ℕ) (bath : ℤ) (r r0 : ℕ) (o : Outcome LawAndResult) → Follows (tolerance_test letter bath r r0) o → o.code ≡ 0
     → Bracketed r r0 (bath +ℤ o.answer.error)
 
 -- ---- a larger resistance allowed

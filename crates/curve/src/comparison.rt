@@ -1,5 +1,5 @@
 // The exact ratio, compared and rounded in 64 bits. Steps are counted by their places from -200 °C on, which are natural numbers.
-ghost use Rattle.std.specs.Prelude.{◌≡◌, ◌+◌, ◌*◌, ◌<◌, ◌≤◌, ◌^◌, pos, neg_ℤ, ◌+ℤ◌};
+ghost use Rattle.std.specs.Prelude.{◌≡◌, ◌+◌, ◌-◌, ◌*◌, ◌<◌, ◌≤◌, ◌^◌, pos, neg_ℤ};
 ghost use Rattle.std.specs.Int.Signed.{le_z};
 ghost use Rattle.whole.specs.Floor.{floor};
 ghost use Rattle.quantity.specs.Quantities.{largest_ratio};
@@ -28,16 +28,28 @@ const FOR_SQUARE: u64 = 5_775;
 struct Wide {
     hi: u64,
     lo: u64,
+    ghost lo_lt: { lo < 10 ^ 12 },
 }
 
-fn times(p: Wide, m: u64) -> Wide
-    requires { (p.hi ≤ 60_000_000_000) × (p.lo < 10 ^ 12) × (m ≤ 2_000_000) }
-    ensures { (result.hi * 10 ^ 12 + result.lo ≡ (p.hi * 10 ^ 12 + p.lo) * m) × (result.lo < 10 ^ 12) }
-{
-    let low = p.lo * m;
-    Wide {
-        hi: p.hi * m + low / 1_000_000_000_000,
-        lo: low % 1_000_000_000_000,
+impl Wide {
+    fn new(n: u64) -> Wide
+        ensures { result.hi * 10 ^ 12 + result.lo ≡ n }
+    {
+        Wide {
+            hi: n / 1_000_000_000_000,
+            lo: n % 1_000_000_000_000,
+        }
+    }
+
+    fn times(self, m: u64) -> Wide
+        requires { (self.hi ≤ 60_000_000_000) × (m ≤ 2_000_000) }
+        ensures { result.hi * 10 ^ 12 + result.lo ≡ (self.hi * 10 ^ 12 + self.lo) * m }
+    {
+        let low = Wide::new(self.lo * m);
+        Wide {
+            hi: self.hi * m + low.hi,
+            lo: low.lo,
+        }
     }
 }
 
@@ -54,22 +66,18 @@ fn risen(n: u64) -> u64
 struct Fall {
     units: u64,
     rest: u64,
+    ghost rest_lt: { rest < 10 ^ 13 },
 }
 
 // Below 0 °C, m steps under it. The fourth power passes 64 bits, so that term is worked in two parts.
 fn fallen(m: u64) -> Fall
     requires { m ≤ 2_000_000 }
-    ensures { (exact (neg_ℤ (pos m)) +ℤ pos (result.units * 10 ^ 13 + result.rest) ≡ pos (10 ^ 31)) × (result.rest < 10 ^ 13) }
+    ensures { (exact (neg_ℤ (pos m)) ≡ pos (10 ^ 31 - (result.units * 10 ^ 13 + result.rest))) × (result.units * 10 ^ 13 + result.rest ≤ 10 ^ 31) }
 {
-    let square = m * m;
     let x = 4_183 * (m * (m + 1_000_000));
-    let p = Wide {
-        hi: x / 1_000_000_000_000,
-        lo: x % 1_000_000_000_000,
-    };
-    let q = times(times(p, m), m);
+    let q = Wide::new(x).times(m).times(m);
     Fall {
-        units: FOR_STEP * m + FOR_SQUARE * square + q.hi / 10,
+        units: FOR_STEP * m + FOR_SQUARE * (m * m) + q.hi / 10,
         rest: q.hi % 10 * 1_000_000_000_000 + q.lo,
     }
 }

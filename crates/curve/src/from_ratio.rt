@@ -5,8 +5,8 @@ ghost use Rattle.curve.specs.Ways.{read_ratio, read_resistances};
 
 use crate::comparison::FIRST;
 use crate::search::find;
-use law::{Law, Reading, ReadingAnswer};
-use quantity::{Celsius, Nanoohm, Ratio, RatioAnswer, Refusal};
+use law::{Law, Reading};
+use quantity::{Celsius, Nanoohm, Ratio, Refusal};
 
 // Ratios under the first are below -200 °C; the second and those over it are past 850 °C.
 const AT_FIRST: u64 = 185_200_800;
@@ -14,32 +14,29 @@ const AT_FIRST: u64 = 185_200_800;
 const AT_PAST_LAST: u64 = 3_904_811_543;
 
 // What a ratio reads.
-pub fn read(w: Ratio) -> ReadingAnswer
+pub fn read(w: Ratio) -> Result<Reading, Refusal>
     ensures { Follows (read_ratio w.0) (stated result) }
 {
     let ratio = w.0;
     if quantity::LARGEST_RATIO < ratio {
-        return ReadingAnswer::Refused(Refusal::RatioAbove);
+        return Err(Refusal::RatioAbove);
     }
     if ratio < AT_FIRST {
-        return ReadingAnswer::Refused(Refusal::BelowRange);
+        return Err(Refusal::BelowRange);
     }
     if AT_PAST_LAST <= ratio {
-        return ReadingAnswer::Refused(Refusal::AboveRange);
+        return Err(Refusal::AboveRange);
     }
     let place = find(ratio);
-    ReadingAnswer::Read(Reading {
+    Ok(Reading {
         law: Law::Curve,
-        step: Celsius(whole::sum(FIRST, whole::signed(place))),
+        step: Celsius(FIRST + place as i64),
     })
 }
 
 // What two resistances read.
-pub fn read_by(r: Nanoohm, r0: Nanoohm) -> ReadingAnswer
+pub fn read_by(r: Nanoohm, r0: Nanoohm) -> Result<Reading, Refusal>
     ensures { Follows (read_resistances r.0 r0.0) (stated result) }
 {
-    match quantity::ratio_of(r, r0) {
-        RatioAnswer::Ratio(w) => read(w),
-        RatioAnswer::Refused(why) => ReadingAnswer::Refused(why),
-    }
+    read(quantity::ratio_of(r, r0)?)
 }

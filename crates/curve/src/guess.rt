@@ -20,13 +20,13 @@ fn scaled(u: u64, v: u64, k: u64) -> u64
     u * v / 1_000_000 * k / 1_000_000
 }
 
-fn minus(a: u64, b: u64) -> u64
-    ensures { result ≤ a }
+// The two terms after the first, u, of the inverse of 1 + At + Bt².
+fn higher_terms(u: u64) -> (u64, u64)
+    requires { u ≤ 9_000_000 }
+    ensures { (result.0 ≤ 2_430_000) × (result.1 ≤ 2_430_000) }
 {
-    if a < b {
-        return 0;
-    }
-    a - b
+    let second = scaled(u, u, BEND);
+    (second, scaled(second, u, 2 * BEND))
 }
 
 // Along the tangent at 0 °C, u steps, and then by two terms of the inverse of 1 + At + Bt²: within 128 steps from -40 °C to 160 °C, and further off elsewhere.
@@ -36,12 +36,10 @@ pub fn guess(w: u64) -> u64
 {
     if w < UNIT {
         let u = (UNIT - w) * 100 / SLOPE;
-        let second = scaled(u, u, BEND);
-        let third = scaled(second, u, 2 * BEND);
-        return minus(ZERO + second, u + third);
+        let (second, third) = higher_terms(u);
+        return (ZERO + second).saturating_sub(u + third);
     }
     let u = (w - UNIT) * 100 / SLOPE;
-    let second = scaled(u, u, BEND);
-    let third = scaled(second, u, 2 * BEND);
+    let (second, third) = higher_terms(u);
     ZERO + u + second + third
 }

@@ -10,4 +10,4 @@ mod tolerance;
 
 pub use from_ratio::{read, read_by};
 pub use from_step::forward;
-pub use tolerance::{ToleranceAnswer, ToleranceResult, tolerance_test};
+pub use tolerance::{ToleranceResult, tolerance_test};

@@ -1,5 +1,6 @@
 // The largest place whose exact ratio is not above a ratio.
-ghost use Rattle.std.specs.Prelude.{◌+◌, ◌^◌, ◌≤◌, ◌<◌, ◌≤ℤ◌, ◌<ℤ◌};
+ghost use Rattle.std.specs.Prelude.{◌≡◌, ◌+◌, ◌^◌, ◌≤◌, ◌<◌, ◌≤ℤ◌, ◌<ℤ◌};
+ghost use Rattle.std.specs.Int.Signed.{le_z};
 ghost use Rattle.whole.specs.Largest.{Largest};
 ghost use Rattle.quantity.specs.Quantities.{largest_ratio};
 ghost use Rattle.curve.specs.Curve.{exact, units, first, last, past_last};
@@ -18,26 +19,15 @@ fn search(from: u64, to: u64, w: u64, allowed: u64) -> u64
     requires w_le_largest_ratio { (w ≤ largest_ratio) × (exact (step_at from) ≤ℤ units w) × (units w <ℤ exact (step_at to)) }
     ensures { Largest exact first last (units w) (step_at result) }
 {
-    let mut low = from;
-    let mut high = to;
-    let mut left = allowed;
-    while 0 < left {
-        left -= 1;
-        let middle = (low + high) / 2;
-        if reached(middle, w) {
-            low = middle;
-        } else {
-            high = middle;
-        }
-    }
-    low
-}
-
-fn search_all(w: u64) -> u64
-    requires { (w ≤ largest_ratio) × (exact first ≤ℤ units w) × (units w <ℤ exact past_last) }
-    ensures { Largest exact first last (units w) (step_at result) }
-{
-    search(0, PAST_LAST, w, 24)
+    whole::last_passing(
+        from,
+        to,
+        allowed,
+        |place|
+            requires { (place ≤ 10_500_001) × (w ≤ largest_ratio) }
+            ensures { result ≡ le_z (exact (step_at place)) (units w) }
+        { reached(place, w) },
+    )
 }
 
 // A search about a guess, where the guess is good, takes ten exact ratios, and else up to two more than a search of all places. Any guess is allowed, since both
@@ -47,17 +37,12 @@ pub fn find(w: u64) -> u64
     ensures { Largest exact first last (units w) (step_at result) }
 {
     let place = guess(w);
-    if place < NEAR {
-        return search_all(w);
+    if NEAR <= place
+        && place + NEAR <= PAST_LAST
+        && reached(place - NEAR, w)
+        && !reached(place + NEAR, w)
+    {
+        return search(place - NEAR, place + NEAR, w, 8);
     }
-    if PAST_LAST < place + NEAR {
-        return search_all(w);
-    }
-    if !reached(place - NEAR, w) {
-        return search_all(w);
-    }
-    if reached(place + NEAR, w) {
-        return search_all(w);
-    }
-    search(place - NEAR, place + NEAR, w, 8)
+    search(0, PAST_LAST, w, 24)
 }

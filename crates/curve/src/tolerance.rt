@@ -5,7 +5,7 @@ ghost use Rattle.curve.specs.Tolerance.{allows, stated, result_of, test_by_class
 
 use crate::comparison::{FIRST, LAST};
 use crate::from_ratio::read_by;
-use law::{Law, ReadingAnswer};
+use law::Law;
 use quantity::{Celsius, Nanoohm, Refusal};
 
 // Whether a thermometer is within its class, its error in steps, which is the curve's step less the bath's, and the law by which it was read.
@@ -16,12 +16,6 @@ pub struct ToleranceResult {
     pub error: i64,
 }
 
-#[derive(Clone, Copy)]
-pub enum ToleranceAnswer {
-    Tested(ToleranceResult),
-    Refused(Refusal),
-}
-
 // What a class allows: baths up to a last one, the steps at 0 °C, and the thousandths of a step more for each step of the bath from there.
 #[derive(Clone, Copy)]
 pub struct Class {
@@ -30,22 +24,34 @@ pub struct Class {
     pub slope: u64,
 }
 
+impl Class {
+    pub const A: Class = Class {
+        top: 6_500_000,
+        fixed: 1_500,
+        slope: 2,
+    };
+
+    pub const B: Class = Class {
+        top: LAST,
+        fixed: 3_000,
+        slope: 5,
+    };
+}
+
 // Whether the class allows the error; the limit itself passes.
 fn allowed(class: Class, bath: i64, error: i64) -> bool
     requires { (class.fixed ≤ 3_000) × (class.slope ≤ 5) × (nat_abs bath < 2 ^ 32) × (nat_abs error < 2 ^ 32) }
     ensures { result ≡ allows class bath error }
 {
-    let fixed = class.fixed;
-    let slope = class.slope;
-    1000 * whole::magnitude(error) <= 1000 * fixed + slope * whole::magnitude(bath)
+    1000 * error.unsigned_abs() <= 1000 * class.fixed + class.slope * bath.unsigned_abs()
 }
 
 // The result of a step that was read.
 fn result_of(class: Class, bath: i64, step: Celsius) -> ToleranceResult
     requires { (class.fixed ≤ 3_000) × (class.slope ≤ 5) × (nat_abs bath < 2 ^ 31) × (nat_abs step.0 < 2 ^ 31) }
-    ensures { (stated (ToleranceAnswer.Tested result)).answer ≡ result_of class bath step.0 }
+    ensures { (stated (Ok result)).answer ≡ result_of class bath step.0 }
 {
-    let error = whole::difference(step.0, bath);
+    let error = step.0 - bath;
     ToleranceResult {
         law: Law::Curve,
         passes: allowed(class, bath, error),
@@ -53,45 +59,37 @@ fn result_of(class: Class, bath: i64, step: Celsius) -> ToleranceResult
     }
 }
 
-fn test_by_class(class: Class, bath: i64, r: Nanoohm, r0: Nanoohm) -> ToleranceAnswer
+fn test_by_class(
+    class: Class,
+    bath: i64,
+    r: Nanoohm,
+    r0: Nanoohm,
+) -> Result<ToleranceResult, Refusal>
     requires { (class.fixed ≤ 3_000) × (class.slope ≤ 5) × (nat_abs class.top < 2 ^ 31) }
     ensures { Follows (test_by_class class bath r.0 r0.0) (stated result) }
 {
-    if whole::less(bath, FIRST) {
-        return ToleranceAnswer::Refused(Refusal::BelowRange);
+    if bath < FIRST {
+        return Err(Refusal::BelowRange);
     }
-    if whole::less(class.top, bath) {
-        return ToleranceAnswer::Refused(Refusal::AboveRange);
+    if class.top < bath {
+        return Err(Refusal::AboveRange);
     }
-    match read_by(r, r0) {
-        ReadingAnswer::Read(reading) => {
-            let step = reading.step;
-            ToleranceAnswer::Tested(result_of(class, bath, step))
-        }
-        ReadingAnswer::Refused(why) => ToleranceAnswer::Refused(why),
-    }
+    let reading = read_by(r, r0)?;
+    Ok(result_of(class, bath, reading.step))
 }
 
 // A tolerance test. The class is named by its letter.
-pub fn tolerance_test(letter: u8, bath: Celsius, r: Nanoohm, r0: Nanoohm) -> ToleranceAnswer
+pub fn tolerance_test(
+    letter: u8,
+    bath: Celsius,
+    r: Nanoohm,
+    r0: Nanoohm,
+) -> Result<ToleranceResult, Refusal>
     ensures { Follows (tolerance_test letter bath.0 r.0 r0.0) (stated result) }
 {
-    let t = bath.0;
-    if letter == b'A' {
-        let class = Class {
-            top: 6_500_000,
-            fixed: 1_500,
-            slope: 2,
-        };
-        return test_by_class(class, t, r, r0);
+    match letter {
+        b'A' => test_by_class(Class::A, bath.0, r, r0),
+        b'B' => test_by_class(Class::B, bath.0, r, r0),
+        _ => Err(Refusal::NameUnknown),
     }
-    if letter == b'B' {
-        let class = Class {
-            top: LAST,
-            fixed: 3_000,
-            slope: 5,
-        };
-        return test_by_class(class, t, r, r0);
-    }
-    ToleranceAnswer::Refused(Refusal::NameUnknown)
 }

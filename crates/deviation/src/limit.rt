@@ -15,11 +15,12 @@ pub const FINE: u64 = 100;
 pub const LARGEST_COEFFICIENT: u64 = 100_000_000;
 
 // W - 1
+#[tactic(auto, unfolding(crate::specs::Limits::x))]
 pub fn offset(w: Ratio) -> i64
     requires { w.0 ≤ largest_ratio }
     ensures { result ≡ x w.0 }
 {
-    whole::difference(whole::signed(w.0), whole::signed(ONE))
+    w.0 as i64 - ONE as i64
 }
 
 // W - Wr, by a cell's Wr.
@@ -27,7 +28,7 @@ pub fn cell_deviation(wr: u64, w: Ratio) -> i64
     requires { (wr ≤ highest_wr) × (w.0 ≤ largest_ratio) }
     ensures { result ≡ δ wr w.0 }
 {
-    whole::difference(whole::signed(FINE * w.0), whole::signed(wr))
+    (FINE * w.0) as i64 - wr as i64
 }
 
 // Whether a cell's deviation keeps its limit, |x|/1000, by its Wr. Past 4.4 none does.
@@ -35,8 +36,6 @@ pub fn within(wr: u64, w: Ratio) -> bool
     requires { wr ≤ highest_wr }
     ensures { result ≡ within_limit wr w.0 }
 {
-    if quantity::LARGEST_RATIO < w.0 {
-        return false;
-    }
-    1000 * whole::magnitude(cell_deviation(wr, w)) <= FINE * whole::magnitude(offset(w))
+    w.0 <= quantity::LARGEST_RATIO
+        && 1000 * cell_deviation(wr, w).unsigned_abs() <= FINE * offset(w).unsigned_abs()
 }

@@ -2,7 +2,7 @@
 use quantity::Ratio;
 
 // Coefficients in units of 10^-11, and W(Al) for ag. Unused places hold 0.
-#[derive(Clone, Copy)]
+#[derive(Clone, Copy, Debug, PartialEq, Eq)]
 pub struct Places {
     pub a: i64,
     pub b: i64,

@@ -21,11 +21,11 @@ pub fn plain_deviation(k: Places, x: i64) -> i64
 }
 
 // Whether there is a d term: for ag, at W(Al) and above.
+#[tactic(auto, unfolding(crate::specs::Working::has_d_term))]
 fn has_d_term(form: Form, k: Places, w: Ratio) -> bool
     ensures { result ≡ has_d_term form k w.0 }
 {
-    let wal = k.wal;
-    form.to_silver() & (wal.0 <= w.0)
+    form.to_silver() & (k.wal.0 <= w.0)
 }
 
 // (d z) z
@@ -41,18 +41,17 @@ fn d_term(form: Form, k: Places, w: Ratio) -> i64
     ensures { result ≡ d_term form k w.0 }
 {
     if has_d_term(form, k, w) {
-        let wal = k.wal;
-        let z = whole::difference(whole::signed(w.0), whole::signed(wal.0));
-        return twice(k.d, z);
+        twice(k.d, w.0 as i64 - k.wal.0 as i64)
+    } else {
+        0
     }
-    0
 }
 
 pub fn deviation(form: Form, k: Places, w: Ratio) -> i64
     requires { Limited form k × (w.0 ≤ largest_ratio) }
     ensures { result ≡ deviation_of form k w.0 }
 {
-    whole::sum(plain_deviation(k, offset(w)), d_term(form, k, w))
+    plain_deviation(k, offset(w)) + d_term(form, k, w)
 }
 
 // The ratio less its deviation, in units of 10^-11.
@@ -60,5 +59,5 @@ pub fn wr(form: Form, k: Places, w: Ratio) -> i64
     requires { Limited form k × (w.0 ≤ largest_ratio) }
     ensures { result ≡ Wr form k w.0 }
 {
-    whole::difference(whole::signed(FINE * w.0), deviation(form, k, w))
+    (FINE * w.0) as i64 - deviation(form, k, w)
 }

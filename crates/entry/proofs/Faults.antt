@@ -1,7 +1,7 @@
 -- The number by which a given certificate is refused, by what its name names.
 use mathlib.Core.Path.{◌≡◌, refl}
 use mathlib.Core.Bool.{Bool, true, false, ◌||◌, not}
-use mathlib.Core.Option.{Option, none, some}
+use Rattle.std.specs.Prelude.{Option, None, Some}
 use Prim.Native.Nat.{ℕ}
 use lib.Dec.{eqb}
 use Rattle.whole.specs.Choice.{if◌then◌otherwise◌}
@@ -16,14 +16,14 @@ abbrev pub fault_by : Option Law → Given → ℕ
 fault_by named k = number_given (if_named no_places named (λ law. given_by law k)).tests
 
 -- a known law is no 3, and a 7 is what is not sound
-pub known_no_3 : (law : Law) (k : Given) → eqb (fault_by (some law) k) 3 ≡ false
+pub known_no_3 : (law : Law) (k : Given) → eqb (fault_by (Some law) k) 3 ≡ false
 known_no_3 law k = by (sound (certificate_of law k))
   where
     by : (t : Bool) → eqb (if not t then 7 otherwise 0) 3 ≡ false
     by true = refl
     by false = refl
 
-pub known_7 : (law : Law) (k : Given) → eqb (fault_by (some law) k) 7 ≡ not (sound (certificate_of law k))
+pub known_7 : (law : Law) (k : Given) → eqb (fault_by (Some law) k) 7 ≡ not (sound (certificate_of law k))
 known_7 law k = by (sound (certificate_of law k))
   where
     by : (t : Bool) → eqb (if not t then 7 otherwise 0) 7 ≡ not t
@@ -39,5 +39,5 @@ bad_by k = by (law_named k.law.0)
     known false = refl
 
     by : (named : Option Law) → (eqb (fault_by named k) 3 || eqb (fault_by named k) 7) ≡ not (eqb (fault_by named k) 0)
-    by none = refl
-    by (some law) = known (sound (certificate_of law k))
+    by None = refl
+    by (Some law) = known (sound (certificate_of law k))

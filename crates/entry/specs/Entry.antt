@@ -1,6 +1,6 @@
 -- An entry of the register: a thermometer's number, the certificate and its serial, and the mark, the serial up to which certificates are withdrawn.
-use Rattle.std.specs.Prelude.{Bool, ◌&&◌, not, ℕ, eqb, ltb, ℤ}
-use Rattle.std.specs.Int.Signed.{lt_z}
+use Rattle.std.specs.Prelude.{Bool, ◌&&◌, not, ℕ, eqb, ltb}
+use Rattle.std.specs.Ordering.{int_eq}
 use Rattle.whole.specs.Choice.{if◌then◌otherwise◌}
 use Rattle.quantity.specs.Outcomes.{number_given}
 use Rattle.deviation.specs.declared.places.Places.{Places}
@@ -22,13 +22,9 @@ is_unsound k = eqb (fault k) 7
 abbrev pub is_bad : Given → Bool
 is_bad k = not (eqb (fault k) 0)
 
--- Two numbers are one where neither is under the other.
-abbrev pub alike : ℤ → ℤ → Bool
-alike x y = not (lt_z x y) && not (lt_z y x)
-
 -- The same certificate: one law by its name, and one number in each place.
 abbrev pub same_places : Places → Places → Bool
-same_places p q = alike p.a q.a && alike p.b q.b && alike p.c q.c && alike p.d q.d && eqb p.wal.0 q.wal.0
+same_places p q = int_eq p.a q.a && int_eq p.b q.b && int_eq p.c q.c && int_eq p.d q.d && eqb p.wal.0 q.wal.0
 
 abbrev pub same : Given → Given → Bool
 same k l = eqb k.law.0 l.law.0 && same_places k.places l.places

@@ -4,7 +4,4 @@
 
 mod entry;
 
-pub use entry::{
-    Entry, Serial, Thermometer, clashes, free, is_bad, is_free, is_live, is_unknown, is_unsound,
-    joined, raised,
-};
+pub use entry::{Entry, Serial, Thermometer, is_bad, is_unknown, is_unsound};

@@ -1,15 +1,14 @@
-// Laws and certificates as the programs that are evidence make and print them.
-use crate::printing;
-use crate::report::print;
+// Laws, certificates and readings as the programs that are evidence make and print them.
 use certificate::Given;
 use deviation::Places;
-use law::{Law, Name, Subrange};
-use quantity::Ratio;
+use law::{Law, Name, Reading, Subrange};
+use quantity::{Ratio, Refusal};
+use std::fmt;
 
 // A certificate as it is given, by its law's name and its places.
-pub fn given_by(name: u64, a: i64, b: i64, c: i64, d: i64, wal: u64) -> Given {
+pub fn given_by(law: Name, a: i64, b: i64, c: i64, d: i64, wal: u64) -> Given {
     Given {
-        law: Name(name),
+        law,
         places: Places {
             a,
             b,
@@ -20,42 +19,45 @@ pub fn given_by(name: u64, a: i64, b: i64, c: i64, d: i64, wal: u64) -> Given {
     }
 }
 
-fn subrange_text(line: &mut [u8], from: usize, subrange: Subrange) -> usize {
-    match subrange {
-        Subrange::Ga => printing::text(line, from, b" ga"),
-        Subrange::In => printing::text(line, from, b" in"),
-        Subrange::Sn => printing::text(line, from, b" sn"),
-        Subrange::Zn => printing::text(line, from, b" zn"),
-        Subrange::Al => printing::text(line, from, b" al"),
-        Subrange::Ag => printing::text(line, from, b" ag"),
-    }
-}
-
-pub fn law_text(line: &mut [u8], from: usize, law: Law) -> usize {
+pub fn law_name(law: Law) -> &'static str {
     match law {
-        Law::Curve => printing::text(line, from, b" curve"),
-        Law::Scale(subrange) => subrange_text(line, from, subrange),
+        Law::Curve => "curve",
+        Law::Scale(Subrange::Ga) => "ga",
+        Law::Scale(Subrange::In) => "in",
+        Law::Scale(Subrange::Sn) => "sn",
+        Law::Scale(Subrange::Zn) => "zn",
+        Law::Scale(Subrange::Al) => "al",
+        Law::Scale(Subrange::Ag) => "ag",
     }
 }
 
-pub fn say_law(out: &impl Print, law: Law) {
-    let mut name = [0u8; 6];
-    let len = law_text(&mut name, 0, law);
-    print(out, &name, len);
+// A value as these programs print it.
+#[derive(Clone, Copy)]
+pub struct Said<T>(pub T);
+
+impl fmt::Display for Said<Places> {
+    fn fmt<W: fmt::Write>(&self, f: &mut fmt::Formatter<W>) -> fmt::Result {
+        let p = self.0;
+        write!(f, "{} {} {} {} {}", p.a, p.b, p.c, p.d, p.wal.0)
+    }
 }
 
-pub fn places_text(
-    line: &mut [u8],
-    from: usize,
-    a: i64,
-    b: i64,
-    c: i64,
-    d: i64,
-    wal: u64,
-) -> usize {
-    let mut at = printing::signed(line, from, a);
-    at = printing::signed(line, at, b);
-    at = printing::signed(line, at, c);
-    at = printing::signed(line, at, d);
-    printing::natural(line, at, wal)
+// A refusal is said by its number.
+impl fmt::Display for Said<Result<Reading, Refusal>> {
+    fn fmt<W: fmt::Write>(&self, f: &mut fmt::Formatter<W>) -> fmt::Result {
+        match self.0 {
+            Ok(reading) => { write!(f, "{} {}", law_name(reading.law), reading.step.0) }
+            Err(why) => write!(f, "refused {}", why.number()),
+        }
+    }
+}
+
+// What an import or a withdrawal answers.
+impl fmt::Display for Said<Result<(), Refusal>> {
+    fn fmt<W: fmt::Write>(&self, f: &mut fmt::Formatter<W>) -> fmt::Result {
+        match self.0 {
+            Ok(()) => write!(f, "made"),
+            Err(why) => write!(f, "refused {}", why.number()),
+        }
+    }
 }

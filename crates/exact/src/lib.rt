@@ -11,5 +11,5 @@ pub fn turn(sum: i64, n: i64, unit: u64, c: i64) -> i64
     requires { (0 < unit) × SFits w64 (sum *ℤ n) × SFits w64 (floor (sum *ℤ n) unit +ℤ c) }
     ensures { result ≡ floor (sum *ℤ n) unit +ℤ c }
 {
-    whole::sum(whole::floor_by(whole::product(sum, n), unit), c)
+    whole::floor_by(sum * n, unit) + c
 }

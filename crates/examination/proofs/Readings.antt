@@ -2,7 +2,7 @@
 use mathlib.Core.Path.{◌≡◌, refl}
 use mathlib.Core.Bool.{Bool, true, false, not}
 use mathlib.Core.List.{◌∷◌}
-use mathlib.Core.Option.{Option, none, some}
+use Rattle.std.specs.Prelude.{Option, None, Some}
 use Prim.Native.Nat.{ℕ}
 use Rattle.quantity.specs.Quantities.{ratio_of}
 use Rattle.quantity.specs.Outcomes.{Outcome, ◌gives◌, Rule, Follows, if_named}
@@ -26,8 +26,8 @@ pub given_zeros : (k : Given) (r r0 : ℕ) → (read_given k r r0).zeros ≡ no_
 given_zeros k r r0 = by (law_named k.law.0)
   where
     by : (named : Option Law) → (if_named no_step named (λ law. read_certificate (certificate_of law k) r r0)).zeros ≡ no_step
-    by none = refl
-    by (some law) = refl
+    by None = refl
+    by (Some law) = refl
 
 pub past_20 : (held : Entry) (r r0 : ℕ) (o : Outcome LawAndStep) → is_live held ≡ true → Follows (read_entry false held r r0) o → Follows (read_given held.certificate r r0) o
 past_20 held r r0 o live h = rw (given_zeros held.certificate r r0) (rw live at h)
@@ -43,7 +43,7 @@ pub entry_widens : (bad : Bool) (held : Entry) (r r0 : ℕ) → Widens (λ large
 entry_widens bad held r r0 largest larger h = by (law_named held.certificate.law.0)
   where
     by : (named : Option Law) → OnlyOnesMove (entry_by bad held r r0 largest named) (entry_by bad held r r0 larger named)
-    by none = none_moves _ (λ a b p q. absurd p)
-    by (some law) =
+    by None = none_moves _ (λ a b p q. absurd p)
+    by (Some law) =
         let k = certificate_of law held.certificate in
         ratio-among (bad gives 23 ∷ not (is_live held) gives 20 ∷ sound_tests k) (value_tests (range_of law) (value_of law k.places (ratio_of r r0))) no_step (read_certificate k r r0).Answer (same_step k r r0) r r0 largest larger h

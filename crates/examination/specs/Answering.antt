@@ -1,19 +1,18 @@
 -- What an import, a withdrawal and a reading answer, the tests in their order.
-use Rattle.std.specs.Prelude.{Bool, not, List, [], ◌∷◌, ℕ}
+use Rattle.std.specs.Prelude.{Bool, not, List, [], ◌∷◌, ℕ, Err, Ok, Result, ⊤}
 use Rattle.quantity.specs.Quantities.{largest_resistance}
 use Rattle.quantity.specs.Refusals.{number_of}
 use Rattle.quantity.specs.Outcomes.{Test, ◌gives◌, Rule}
 use Rattle.law.specs.Answers.{LawAndStep, no_step}
 use Rattle.reading.specs.Reading.{read_given_up_to}
 use Rattle.entry.specs.declared.entry.Entry.{Entry}
-use Rattle.examination.specs.declared.answering.Change.{Change}
-use Rattle.examination.specs.declared.answering.Change.TheVariants.{Made, Refused}
+use Rattle.quantity.specs.declared.refusal.Refusal.{Refusal}
 use Rattle.entry.specs.Entry.{is_free, is_live}
 
 -- What each case stands for: 0, or the number of the refusal.
-abbrev pub stated : Change → ℕ
-stated Made = 0
-stated (Refused why) = number_of why
+abbrev pub stated : Result ⊤ Refusal → ℕ
+stated (Ok _) = 0
+stated (Err why) = number_of why
 
 -- An import. 23: the table holds a thermometer twice or a bad certificate; 3: an imported certificate is of unknown law; 7: one is not sound; 17: a thermometer
 -- is 0 or twice in the list; 18: a serial has two certificates; 19: there are more new thermometers than places left.

@@ -3,7 +3,9 @@
 #![tactic(auto)]
 
 mod answering;
+mod read_entry;
 mod testing;
 
-pub use answering::{Change, accepted, import_answer, reading_answer, withdrawal_answer};
+pub use answering::{import_answer, withdrawal_answer};
+pub use read_entry::reading_answer;
 pub use testing::{Noted, Seen, note, nothing_noted, nothing_seen, see};

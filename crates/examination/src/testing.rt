@@ -2,7 +2,7 @@
 ghost use Rattle.std.specs.Prelude.{◌≡◌, ◌<◌, ◌+◌, ◌-◌, ◌^◌};
 ghost use Rattle.examination.specs.Testing.{seen as seen_with, noted as noted_with, nothing_seen, nothing_noted, left_after};
 
-use entry::{Entry, clashes, is_bad, is_free, is_unknown, is_unsound};
+use entry::{Entry, is_bad, is_unknown, is_unsound};
 
 // Of a table: whether it holds a thermometer twice or a bad certificate, and how many places are free.
 #[derive(Clone, Copy)]
@@ -37,16 +37,15 @@ pub fn see(s: Seen, e: Entry, at: usize, first: usize) -> Seen
     requires { s.places + 1 < 2 ^ 64 }
     ensures { result ≡ seen_with s e at first }
 {
-    if is_free(e) {
+    if e.is_free() {
         return Seen {
-            bad: s.bad,
             places: s.places + 1,
+            ..s
         };
     }
-    let k = e.certificate;
     Seen {
-        bad: s.bad | (first != at) | is_bad(k),
-        places: s.places,
+        bad: s.bad | (first != at) | is_bad(e.certificate),
+        ..s
     }
 }
 
@@ -63,20 +62,11 @@ pub fn nothing_noted(places: u64) -> Noted
     }
 }
 
-fn less_one(left: u64) -> u64
-    ensures { result ≡ left - 1 }
-{
-    if left == 0 {
-        return 0;
-    }
-    left - 1
-}
-
 fn left_after(left: u64, taken: bool) -> u64
     ensures { result ≡ left_after left taken }
 {
     if taken {
-        return less_one(left);
+        return left.saturating_sub(1);
     }
     left
 }
@@ -85,13 +75,12 @@ fn left_after(left: u64, taken: bool) -> u64
 pub fn note(s: Noted, e: Entry, at: usize, first: usize, held: Entry) -> Noted
     ensures { result ≡ noted_with s e at first held }
 {
-    let k = e.certificate;
-    let is_new = is_free(held);
+    let is_new = held.is_free();
     Noted {
-        unknown: s.unknown | is_unknown(k),
-        unsound: s.unsound | is_unsound(k),
-        unfit: s.unfit | is_free(e) | (first != at),
-        clashing: s.clashing | clashes(held, e),
+        unknown: s.unknown | is_unknown(e.certificate),
+        unsound: s.unsound | is_unsound(e.certificate),
+        unfit: s.unfit | e.is_free() | (first != at),
+        clashing: s.clashing | held.clashes(e),
         short: s.short | (is_new & (s.left == 0)),
         left: left_after(s.left, is_new),
     }

@@ -5,7 +5,7 @@ use mathlib.Core.List.{[], ◌∷◌}
 use borrow.Author.Tests.{ltb-false}
 use lib.Dec.{ltb}
 use lib.IntN.{ℤ, pos, nat_abs}
-use Rattle.whole.specs.Any.{any}
+use Rattle.std.specs.List.{list_any}
 use Rattle.whole.proofs.Any.{or_false}
 use Rattle.deviation.specs.Limits.{largest_coefficient, Small}
 use Rattle.fit.specs.declared.Point.{Point}
@@ -16,9 +16,9 @@ pub all_within : (k : Places) → beyond k ≡ false → Small k
 unfolding beyond
 all_within k e =
     let large : ℤ → Bool = λ (value : ℤ). ltb largest_coefficient (nat_abs value) in
-    let a = or_false (large k.a) (any large (k.b ∷ k.c ∷ k.d ∷ [])) e in
-    let b = or_false (large k.b) (any large (k.c ∷ k.d ∷ [])) a.1 in
-    let c = or_false (large k.c) (any large (k.d ∷ [])) b.1 in
+    let a = or_false (large k.a) (list_any large (k.b ∷ k.c ∷ k.d ∷ [])) e in
+    let b = or_false (large k.b) (list_any large (k.c ∷ k.d ∷ [])) a.1 in
+    let c = or_false (large k.c) (list_any large (k.d ∷ [])) b.1 in
     let d = or_false (large k.d) false c.1 in
     record {
       a = ltb-false largest_coefficient (nat_abs k.a) a.0;

@@ -1,7 +1,7 @@
 -- "From record to certificate": the coefficients that the used cells give, in the places of a certificate. Every product or quotient is rounded down once, to
 -- 10^-11. W(Al) is no coefficient: its place is left at 0 here.
 use Rattle.std.specs.Prelude.{Bool, List, [], ◌∷◌, ltb, ℤ, pos, nat_abs, ◌+ℤ◌, ◌-ℤ◌, ◌*ℤ◌}
-use Rattle.whole.specs.Any.{any}
+use Rattle.std.specs.List.{list_any}
 use Rattle.whole.specs.Floor.{floor, quotient}
 use Rattle.quantity.specs.Quantities.{one}
 use Rattle.quantity.specs.declared.resistance.Ratio.{Ratio}
@@ -75,4 +75,4 @@ fit (p₁ ∷ p₂ ∷ p₃ ∷ p₄ ∷ p₅ ∷ ps) = no_coefficients
 
 -- Some coefficient is beyond its limit.
 unfoldable pub beyond : Places → Bool
-beyond k = any (λ (value : ℤ). ltb largest_coefficient (nat_abs value)) (k.a ∷ k.b ∷ k.c ∷ k.d ∷ [])
+beyond k = list_any (λ (value : ℤ). ltb largest_coefficient (nat_abs value)) (k.a ∷ k.b ∷ k.c ∷ k.d ∷ [])

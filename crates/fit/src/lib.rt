@@ -23,7 +23,7 @@ fn times(n: i64, x: i64) -> i64
     requires { nat_abs n * nat_abs x < 2 ^ 63 }
     ensures { result ≡ n · x }
 {
-    whole::floor_by(whole::product(n, x), ONE)
+    whole::floor_by(n * x, ONE)
 }
 
 // n / x
@@ -31,7 +31,7 @@ fn over(n: i64, x: i64) -> i64
     requires { (nat_abs n * one < 2 ^ 63) × (x ≡ pos 0 → ⊥) }
     ensures { result ≡ n ÷ x }
 {
-    whole::divide_down(whole::product(n, whole::signed(ONE)), x)
+    whole::divide_down(n * ONE as i64, x)
 }
 
 fn q(p: Point) -> i64
@@ -41,20 +41,12 @@ fn q(p: Point) -> i64
     over(p.delta, p.x)
 }
 
-// n times a cell's x.
-fn times_x(n: i64, p: Point) -> i64
-    requires { nat_abs n * nat_abs p.x < 2 ^ 63 }
-    ensures { result ≡ n · p.x }
-{
-    times(n, p.x)
-}
-
 // What rises from one cell to a higher one, over how far x rises.
 fn slope(low: i64, high: i64, p1: Point, p2: Point) -> i64
     requires { (nat_abs low ≤ 1_000_000_000) × (nat_abs high ≤ 1_000_000_000) × Kept p1 × Kept p2 × (p1.x <ℤ p2.x) }
     ensures { result ≡ (high -ℤ low) ÷ (p2.x -ℤ p1.x) }
 {
-    over(whole::difference(high, low), whole::difference(p2.x, p1.x))
+    over(high - low, p2.x - p1.x)
 }
 
 pub fn of_one(p1: Point) -> Places
@@ -77,7 +69,7 @@ pub fn of_two(p1: Point, p2: Point) -> Places
     let q1 = q(p1);
     let b = slope(q1, q(p2), p1, p2);
     Places {
-        a: whole::difference(q1, times_x(b, p1)),
+        a: q1 - times(b, p1.x),
         b,
         c: 0,
         d: 0,
@@ -90,7 +82,7 @@ fn coefficient_b(r12: i64, c: i64, p1: Point, p2: Point) -> i64
     requires { (nat_abs r12 ≤ 500_000_000) × (nat_abs c ≤ 500_000_000) × Kept p1 × Kept p2 }
     ensures { result ≡ r12 -ℤ c · (p1.x +ℤ p2.x) }
 {
-    whole::difference(r12, times(c, whole::sum(p1.x, p2.x)))
+    r12 - times(c, p1.x + p2.x)
 }
 
 // q1 - b·x1 - (c·x1)·x1
@@ -98,8 +90,7 @@ fn coefficient_a(q1: i64, b: i64, c: i64, p1: Point) -> i64
     requires { (nat_abs q1 ≤ 500_000_000) × (nat_abs b ≤ 3_000_000_000) × (nat_abs c ≤ 500_000_000) × (nat_abs p1.x ≤ 2_500_000_000) }
     ensures { result ≡ q1 -ℤ b · p1.x -ℤ (c · p1.x) · p1.x }
 {
-    let linear = whole::difference(q1, times_x(b, p1));
-    whole::difference(linear, times_x(times_x(c, p1), p1))
+    q1 - times(b, p1.x) - times(times(c, p1.x), p1.x)
 }
 
 pub fn of_three(p1: Point, p2: Point, p3: Point) -> Places
@@ -126,8 +117,7 @@ fn excess(k: Places, ag: Point) -> i64
     requires { (beyond_of k ≡ false) × Kept ag }
     ensures { result ≡ ag.delta -ℤ plain_deviation k ag.x }
 {
-    let x = ag.x;
-    whole::difference(ag.delta, plain_deviation(k, x))
+    ag.delta - plain_deviation(k, ag.x)
 }
 
 // (e/z)/z
@@ -135,7 +125,7 @@ fn coefficient_d(e: i64, al: Point, ag: Point) -> i64
     requires { (nat_abs e ≤ 6_000_000_000) × Spread wide (al ∷ ag ∷ []) }
     ensures { result ≡ e ÷ (ag.x -ℤ al.x) ÷ (ag.x -ℤ al.x) }
 {
-    let z = whole::difference(ag.x, al.x);
+    let z = ag.x - al.x;
     over(over(e, z), z)
 }
 
@@ -158,10 +148,10 @@ fn with_silver(k: Places, al: Point, ag: Point) -> Places
 fn too_large(value: i64) -> bool
     ensures { result ≡ ltb largest_coefficient (nat_abs value) }
 {
-    LARGEST_COEFFICIENT < whole::magnitude(value)
+    LARGEST_COEFFICIENT < value.unsigned_abs()
 }
 
-// Whether a coefficient is beyond its limit.
+// Whether a coefficient is beyond its limit. An `any` over the four was tried, and the proof did not close.
 pub fn beyond(k: Places) -> bool
     ensures { result ≡ beyond_of k }
 {

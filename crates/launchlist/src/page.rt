@@ -1,8 +1,7 @@
 // The help page.
-use std::io;
 
 // What is written at once, part by part.
-const PARTS: [&[u8]; 29] = [
+pub const PARTS: [&[u8]; 29] = [
     b"launchlist - answers a list of thermometer readings\n\n",
     b"usage: launchlist [--status] < LIST > ANSWERS\n",
     b"       launchlist --help\n\n",
@@ -33,14 +32,3 @@ const PARTS: [&[u8]; 29] = [
     b"Rattle cannot set its exit status: --status writes 0, or 1 after a wrong\n",
     b"first line or a failure, to descriptor 3, and ./run makes its own of it.\n",
 ];
-
-// Writes all of it, and goes on where a part fails. The last failure, if there was one.
-pub fn print(to: &impl Print) -> io::Result<()> {
-    let mut written = Ok(());
-    for part in PARTS {
-        if let Err(why) = to.write_all(part) {
-            written = Err(why);
-        }
-    }
-    written
-}

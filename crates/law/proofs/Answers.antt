@@ -2,7 +2,8 @@
 use mathlib.Core.Path.{◌≡◌, refl, sym, ◌∙◌, ap, ap₂}
 use mathlib.Core.Bool.{true}
 use mathlib.Core.List.{List, []}
-use mathlib.Core.Option.{Option, some, get_or}
+use Rattle.std.specs.Prelude.{Option, Some, Err, Ok, Result}
+use Rattle.std.specs.Option.{unwrap_or}
 use Prim.Native.Nat.{ℕ}
 use lib.IntN.{ℤ, pos, ◌+ℤ◌}
 use lib.Signed.{◌≤ℤ◌, ◌<ℤ◌}
@@ -13,20 +14,19 @@ use Rattle.quantity.specs.Outcomes.{Outcome, answered, refused, Test, number_giv
 use Rattle.quantity.proofs.Outcomes.{one-outcome, not-answered, one-refusal, numbered, with_first, without-first}
 use Rattle.law.specs.declared.laws.Law.{Law}
 use Rattle.law.specs.declared.laws.Law.TheVariants.{Curve}
-use Rattle.law.specs.declared.answer.ReadingAnswer.{ReadingAnswer}
-use Rattle.law.specs.declared.answer.ReadingAnswer.TheVariants as reading
-use Rattle.law.specs.declared.answer.ForwardAnswer.{ForwardAnswer}
-use Rattle.law.specs.declared.answer.ForwardAnswer.TheVariants as forward
+use Rattle.quantity.specs.declared.refusal.Refusal.{Refusal}
+use Rattle.law.specs.declared.answer.Reading.{Reading}
+use Rattle.law.specs.declared.answer.ForwardRatio.{ForwardRatio}
 use Rattle.law.specs.Ranges.{Range, by_largest, value_tests}
 use Rattle.law.specs.Answers.{LawAndStep, no_step, stated, read_by, LawAndRatio, no_ratio, stated_forward, forward_by}
 
 -- ---- a reading
-pub stated_unique : (x y : ReadingAnswer) → stated x ≡ stated y → x ≡ y
-stated_unique (reading.Read t) (reading.Read u) e =
-    ap (λ (o : Outcome LawAndStep). reading.Read (record { law = get_or o.answer.law Curve; step = record { 0 = o.answer.step } })) e
-stated_unique (reading.Read t) (reading.Refused why) e = absurd (not-answered no_step _ why e)
-stated_unique (reading.Refused why) (reading.Read u) e = absurd (not-answered no_step _ why (sym e))
-stated_unique (reading.Refused v) (reading.Refused w) e = ap reading.Refused (one-refusal no_step v w e)
+pub stated_unique : (x y : Result Reading Refusal) → stated x ≡ stated y → x ≡ y
+stated_unique (Ok t) (Ok u) e =
+    ap (λ (o : Outcome LawAndStep). Ok (record { law = unwrap_or o.answer.law Curve; step = record { 0 = o.answer.step } })) e
+stated_unique (Ok t) (Err why) e = absurd (not-answered no_step _ why e)
+stated_unique (Err why) (Ok u) e = absurd (not-answered no_step _ why (sym e))
+stated_unique (Err v) (Err w) e = ap Err (one-refusal no_step v w e)
 
 -- a range answers a value by one step at most
 abbrev pub OneStep : Range → Type 0
@@ -53,7 +53,7 @@ module _ (law : Law) (value_at : ℤ → ℤ) (bottom top value : ℤ) where
   pub reads_past : value_at bottom ≤ℤ value → value_at (top +ℤ pos 1) ≤ℤ value → Follows read (refused no_step 9)
   reads_past h p = rw (no_lt h, yes_le p) refl
 
-  pub reads-step : (step : ℤ) → value_at bottom ≤ℤ value → value <ℤ value_at (top +ℤ pos 1) → Largest value_at bottom top value step → Follows read (answered (record { law = some law; step = step }))
+  pub reads-step : (step : ℤ) → value_at bottom ≤ℤ value → value <ℤ value_at (top +ℤ pos 1) → Largest value_at bottom top value step → Follows read (answered (record { law = Some law; step = step }))
   reads-step step h p l = rw (no_lt h, no_le p) (refl, (refl, l))
 
 -- a value that is read after tests that pass is read so after any others that pass
@@ -63,12 +63,12 @@ read_after s t law range value n e m f o h =
     with_first t (value_tests range value) no_step Answer m f o (without-first s (value_tests range value) no_step Answer n e o h)
 
 -- ---- forward
-pub forward_unique : (x y : ForwardAnswer) → stated_forward x ≡ stated_forward y → x ≡ y
-forward_unique (forward.At t) (forward.At u) e =
-    ap (λ (o : Outcome LawAndRatio). forward.At (record { law = get_or o.answer.law Curve; ratio = record { 0 = o.answer.ratio } })) e
-forward_unique (forward.At t) (forward.Refused why) e = absurd (not-answered no_ratio _ why e)
-forward_unique (forward.Refused why) (forward.At u) e = absurd (not-answered no_ratio _ why (sym e))
-forward_unique (forward.Refused v) (forward.Refused w) e = ap forward.Refused (one-refusal no_ratio v w e)
+pub forward_unique : (x y : Result ForwardRatio Refusal) → stated_forward x ≡ stated_forward y → x ≡ y
+forward_unique (Ok t) (Ok u) e =
+    ap (λ (o : Outcome LawAndRatio). Ok (record { law = unwrap_or o.answer.law Curve; ratio = record { 0 = o.answer.ratio } })) e
+forward_unique (Ok t) (Err why) e = absurd (not-answered no_ratio _ why e)
+forward_unique (Err why) (Ok u) e = absurd (not-answered no_ratio _ why (sym e))
+forward_unique (Err v) (Err w) e = ap Err (one-refusal no_ratio v w e)
 
 -- from the side on which the step lies
 module _ (law : Law) (range : Range) (RatioOf : ℕ → Type 0) (step : ℤ) where
@@ -81,7 +81,7 @@ module _ (law : Law) (range : Range) (RatioOf : ℕ → Type 0) (step : ℤ) whe
   pub step-above : range.bottom ≤ℤ step → range.top <ℤ step → Follows forth (refused no_ratio 9)
   step-above h p = rw (no_lt h, yes_lt p) refl
 
-  pub step-within : (w : ℕ) → range.bottom ≤ℤ step → step ≤ℤ range.top → RatioOf w → Follows forth (answered (record { law = some law; ratio = w }))
+  pub step-within : (w : ℕ) → range.bottom ≤ℤ step → step ≤ℤ range.top → RatioOf w → Follows forth (answered (record { law = Some law; ratio = w }))
   step-within w h p r = rw (no_lt h, no_lt p) (refl, (refl, r))
 
 pub one_forward : (earlier : List Test) (law : Law) (range : Range) (RatioOf : ℕ → Type 0) (step : ℤ) → ((v w : ℕ) → RatioOf v → RatioOf w → v ≡ w) → (o o' : Outcome LawAndRatio) → Follows (forward_by earlier law range RatioOf step) o → Follows (forward_by earlier law range RatioOf step) o' → o ≡ o'

@@ -2,10 +2,10 @@
 use mathlib.Core.Path.{◌≡◌, refl}
 use mathlib.Core.Bool.{Bool, true, false, ◌&&◌}
 use mathlib.Core.List.{map}
-use mathlib.Core.Option.{some}
+use Rattle.std.specs.Prelude.{Some}
 use borrow.Author.Tests.{leb-true}
 use lib.Dec.{leb}
-use Rattle.whole.specs.Any.{any, every}
+use Rattle.std.specs.List.{list_any, list_all}
 use Rattle.whole.proofs.Any.{Member, here, there, of_every, of_none, of_map}
 use Rattle.whole.proofs.Choice.{and_true}
 use Rattle.law.specs.declared.cell.Cell.{Cell}
@@ -35,13 +35,13 @@ subrange_listed Al = there (there (there (there here)))
 subrange_listed Ag = there (there (there (there (there here))))
 
 -- a test that all cells, or all subranges, pass
-pub every_cell : (test : Cell → Bool) → every test all_cells ≡ true → (p : Cell) → test p ≡ true
+pub every_cell : (test : Cell → Bool) → list_all test all_cells ≡ true → (p : Cell) → test p ≡ true
 every_cell test e p = of_every test p all_cells (cell_listed p) e
 
-pub no_cell : (test : Cell → Bool) → any test all_cells ≡ false → (p : Cell) → test p ≡ false
+pub no_cell : (test : Cell → Bool) → list_any test all_cells ≡ false → (p : Cell) → test p ≡ false
 no_cell test e p = of_none test p all_cells (cell_listed p) e
 
-pub every_subrange : (test : Subrange → Bool) → every test all_subranges ≡ true → (s : Subrange) → test s ≡ true
+pub every_subrange : (test : Subrange → Bool) → list_all test all_subranges ≡ true → (s : Subrange) → test s ≡ true
 every_subrange test e s = of_every test s all_subranges (subrange_listed s) e
 
 -- an equation that holds over the list of cells, or of subranges, holds of each
@@ -62,4 +62,4 @@ one_to_four s =
 pub names_law : NamesLaw
 names_law Curve = refl
 names_law (Scale s) =
-    subrange_fact (λ (s : Subrange). law_named (law_name (Scale s))) (λ (s : Subrange). some (Scale s)) refl s
+    subrange_fact (λ (s : Subrange). law_named (law_name (Scale s))) (λ (s : Subrange). Some (Scale s)) refl s

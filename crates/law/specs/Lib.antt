@@ -2,7 +2,6 @@
 pub mod Names
 pub mod Cells
 pub mod Subranges
-pub mod Listed
 pub mod Ranges
 pub mod Answers
 pub mod Promised

@@ -1,6 +1,5 @@
 -- What holds of every subrange and law.
-use Rattle.std.specs.Prelude.{◌≡◌, Bool, true, false, ◌&&◌, List, [], ◌∷◌, ◌≤◌, ℤ}
-use Rattle.std.proofs.Math.Option.{some}
+use Rattle.std.specs.Prelude.{◌≡◌, Bool, true, false, ◌&&◌, List, [], ◌∷◌, ◌≤◌, ℤ, Some}
 use Rattle.std.specs.Int.Signed.{le_z, lt_z}
 use Rattle.law.specs.declared.cell.Cell.{Cell}
 use Rattle.law.specs.declared.subrange.Subrange.{Subrange}
@@ -23,4 +22,4 @@ OneToFour = (s : Subrange) → (1 ≤ coefficients s) × (coefficients s ≤ 4)
 
 -- A law's name names that law and no other.
 abbrev pub NamesLaw : Type 0
-NamesLaw = (law : Law) → law_named (law_name law) ≡ some law
+NamesLaw = (law : Law) → law_named (law_name law) ≡ Some law

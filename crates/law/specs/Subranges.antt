@@ -1,7 +1,6 @@
 -- The subranges of the scale, one row each, and the laws.
-use Rattle.std.specs.Prelude.{Bool, true, false, List, [], ◌∷◌, map, ℕ, eqb, ℤ, pos, length}
-use Rattle.std.proofs.Math.Option.{Option, none, some}
-use Rattle.whole.specs.Choice.{if◌then◌otherwise◌}
+use Rattle.std.specs.Prelude.{Bool, true, false, List, [], ◌∷◌, map, ℕ, ◌==◌, ℤ, pos, length, Option}
+use Rattle.std.specs.List.{find}
 use Rattle.law.specs.declared.cell.Cell.{Cell}
 use Rattle.law.specs.declared.cell.Cell.TheVariants as cell
 use Rattle.law.specs.declared.subrange.Subrange.{Subrange}
@@ -51,14 +50,9 @@ cells s = (carried s).cells
 abbrev pub coefficients : Subrange → ℕ
 coefficients s = length (cells s)
 
--- The first of a list that has the name, if any.
-abbrev pub first_named : {A : Type 0} → (A → ℕ) → ℕ → List A → Option A
-first_named name_of n [] = none
-first_named name_of n (x ∷ xs) = if eqb n (name_of x) then some x otherwise first_named name_of n xs
-
 -- The subrange that a name names.
 abbrev pub subrange_named : ℕ → Option Subrange
-subrange_named n = first_named (λ (s : Subrange). (carried s).name) n all_subranges
+subrange_named n = find (λ s. (carried s).name == n) all_subranges
 
 -- ---- the laws: the curve, and the scale by one of its subranges
 abbrev pub law_name : Law → ℕ
@@ -70,7 +64,7 @@ all_laws = Curve ∷ map Scale all_subranges
 
 -- The law that a name names.
 abbrev pub law_named : ℕ → Option Law
-law_named n = first_named law_name n all_laws
+law_named n = find (λ law. law_name law == n) all_laws
 
 -- The curve uses no coefficient and does not reach silver.
 abbrev pub law_coefficients : Law → ℕ

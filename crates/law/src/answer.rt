@@ -1,6 +1,6 @@
 // Answers that name the law by which they were given.
 use crate::laws::Law;
-use quantity::{Celsius, Ratio, Refusal};
+use quantity::{Celsius, Ratio};
 
 // A step, and the law by which it was read.
 #[derive(Clone, Copy)]
@@ -9,21 +9,9 @@ pub struct Reading {
     pub step: Celsius,
 }
 
-#[derive(Clone, Copy)]
-pub enum ReadingAnswer {
-    Read(Reading),
-    Refused(Refusal),
-}
-
 // A ratio, and the law by which it is that of a step.
 #[derive(Clone, Copy)]
 pub struct ForwardRatio {
     pub law: Law,
     pub ratio: Ratio,
-}
-
-#[derive(Clone, Copy)]
-pub enum ForwardAnswer {
-    At(ForwardRatio),
-    Refused(Refusal),
 }

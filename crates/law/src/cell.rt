@@ -4,7 +4,7 @@ ghost use Rattle.law.specs.Cells.{step as step_of, Wr};
 
 use quantity::Celsius;
 
-#[derive(Clone, Copy)]
+#[derive(Clone, Copy, Debug, PartialEq, Eq)]
 pub enum Cell {
     Hg,
     Ga,
@@ -16,6 +16,16 @@ pub enum Cell {
 }
 
 impl Cell {
+    pub const ALL: [Cell; 7] = [
+        Cell::Hg,
+        Cell::Ga,
+        Cell::In,
+        Cell::Sn,
+        Cell::Zn,
+        Cell::Al,
+        Cell::Ag,
+    ];
+
     // Its temperature.
     pub fn step(self) -> Celsius
         ensures { result.0 ≡ step_of self }

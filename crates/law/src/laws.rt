@@ -1,39 +1,27 @@
 // The law that a thermometer is read by.
 ghost use Rattle.std.specs.Prelude.{◌≡◌};
 ghost use Rattle.law.specs.Subranges.{law_named, law_coefficients, law_silver};
-ghost use Rattle.law.specs.Listed.{named_law};
 
 use crate::name::Name;
-use crate::subrange::{NamedSubrange, Subrange};
+use crate::subrange::Subrange;
 
-#[derive(Clone, Copy)]
+#[derive(Clone, Copy, Debug, PartialEq, Eq)]
 pub enum Law {
     Curve,
     Scale(Subrange),
 }
 
-// The law that a name names.
-#[derive(Clone, Copy)]
-pub enum NamedLaw {
-    Known(Law),
-    Unknown,
-}
-
 // The curve's name.
-pub const CURVE: u64 = 0x63_7572_7665;
+pub const CURVE: Name = Name(0x63_7572_7665);
 
 impl Law {
-    pub fn named(name: Name) -> NamedLaw
-        ensures { named_law result ≡ law_named name.0 }
+    pub fn named(name: Name) -> Option<Law>
+        ensures { result ≡ law_named name.0 }
     {
-        let n = name.0;
-        if n == CURVE {
-            return NamedLaw::Known(Law::Curve);
+        if name == CURVE {
+            return Some(Law::Curve);
         }
-        match Subrange::named(Name(n)) {
-            NamedSubrange::Known(s) => NamedLaw::Known(Law::Scale(s)),
-            NamedSubrange::Unknown => NamedLaw::Unknown,
-        }
+        Subrange::named(name).map(Law::Scale)
     }
 
     // How many of a, b, c, d it uses: the curve none.

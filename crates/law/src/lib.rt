@@ -7,8 +7,8 @@ mod laws;
 mod name;
 mod subrange;
 
-pub use answer::{ForwardAnswer, ForwardRatio, Reading, ReadingAnswer};
+pub use answer::{ForwardRatio, Reading};
 pub use cell::Cell;
-pub use laws::{CURVE, Law, NamedLaw};
+pub use laws::{CURVE, Law};
 pub use name::Name;
-pub use subrange::{Ag, Al, Cells, Form, Ga, In, NamedSubrange, Sn, Subrange, Zn};
+pub use subrange::{Form, Subrange};

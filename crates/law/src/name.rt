@@ -1,3 +1,3 @@
 // A name of up to eight letters as a number: its ASCII bytes are digits in base 256, the first letter highest. No law has the name 0.
-#[derive(Clone, Copy)]
+#[derive(Clone, Copy, Debug, PartialEq, Eq)]
 pub struct Name(pub u64);

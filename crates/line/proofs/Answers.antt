@@ -2,10 +2,11 @@
 use mathlib.Core.Path.{◌≡◌, refl, sym, ap, ◌∙◌, subst}
 use mathlib.Core.Bool.{true}
 use mathlib.Core.List.{List, [], ◌∷◌, ◌++◌, append_assoc, append-nil}
-use mathlib.Core.Option.{some}
-use Prim.Native.Nat.{ℕ}
+use Rattle.std.specs.Prelude.{Some}
+use Prim.Native.Nat.{ℕ, ◌≤◌}
 use Prim.Native.String.{String}
-use lib.ListN.{take}
+use lib.ListN.{take, length}
+use native.Mathlib.Omega.{arith}
 use Rattle.whole.specs.Text.{ascii}
 use Rattle.quantity.specs.declared.refusal.Refusal.{Refusal}
 use Rattle.quantity.specs.Refusals.{number_of}
@@ -69,9 +70,19 @@ fault-text title titles (Broken n) why =
     (append_assoc (ascii "?,?,") (decimal n) (commaed (blanks (title ∷ titles))) ∙ ap (λ (l : List ℕ). ascii "?,?," ++ l) (sym (append_assoc (decimal n) (ascii ",") (commaed (blanks titles)))))
     ∙ answer-text (ascii "?") (ascii "?") (decimal n ∷ blanks titles) (number_of why)
 
-pub placed-fault : (kind : Kind) (title : String) (titles : List String) → kind.own ≡ title ∷ titles → (line out out' : List ℕ) (x : Placing) (fault : Fault) → fault_of kind.columns line ≡ some fault
+pub placed-fault : (kind : Kind) (title : String) (titles : List String) → kind.own ≡ title ∷ titles → (line out out' : List ℕ) (x : Placing) (fault : Fault) → fault_of kind.columns line ≡ Some fault
     → PlacedAs (number_of (refusal_of fault)) (fault_text fault (commaed (blanks kind.own))) out out' x → AnsweredAs kind line out out' x
 placed-fault kind title titles own line out out' x fault found p =
     let text : fault_text fault (commaed (blanks kind.own)) ≡ fault_line kind fault =
     subst (λ (own : List String). fault_text fault (commaed (blanks own)) ≡ nameless_line (fault_columns own fault) (refusal_of fault)) (sym own) (fault-text title titles fault (refusal_of fault)) in
     (number_of (refusal_of fault), fault_line kind fault, rw found (refl, refl), subst (λ (t : List ℕ). PlacedAs (number_of (refusal_of fault)) t out out' x) text p)
+
+-- of any kind that has an own column
+pub faulty : (kind : Kind) → 1 ≤ length kind.own → (line out out' : List ℕ) (x : Placing) (fault : Fault) → fault_of kind.columns line ≡ Some fault
+    → PlacedAs (number_of (refusal_of fault)) (fault_text fault (commaed (blanks kind.own))) out out' x → AnsweredAs kind line out out' x
+faulty kind some = by kind.own refl some
+  where
+    by : (own : List String) → kind.own ≡ own → 1 ≤ length own → (line out out' : List ℕ) (x : Placing) (fault : Fault) → fault_of kind.columns line ≡ Some fault
+        → PlacedAs (number_of (refusal_of fault)) (fault_text fault (commaed (blanks kind.own))) out out' x → AnsweredAs kind line out out' x
+    by [] is none = absurd (omega arith)
+    by (title ∷ titles) is some = placed-fault kind title titles is

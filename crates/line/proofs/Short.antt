@@ -2,7 +2,7 @@
 use mathlib.Core.Path.{◌≡◌, refl, sym, ap, ◌∙◌}
 use mathlib.Core.Bool.{Bool, true, false}
 use mathlib.Core.List.{List, ◌∷◌}
-use mathlib.Core.Option.{Option, none, some}
+use Rattle.std.specs.Prelude.{Option, None, Some}
 use Prim.Native.Nat.{ℕ, suc, ◌+◌, ◌<◌, ◌≤◌, ◌^◌}
 use Prim.Native.String.{String}
 use native.Mathlib.Omega.{arith}
@@ -45,15 +45,15 @@ signed_few k (negsuc n) h = omega (arith, few_digits k (suc n) h)
 -- a row's outcome, by the rule of what its name names: own columns are empty or those of an answer that passed its tests
 module _ (kind : Kind) (bytes : ℕ) {B : Type 0} (zeros : kind.Answer) (found : Option B) (rule : B → Rule kind.Answer)
     (few : (b : B) → most 9 (rule b).tests ≡ true) (blank : length (commaed (blanks kind.own)) ≤ bytes)
-    (short : (b : B) → found ≡ some b → (a : kind.Answer) → number_given (rule b).tests ≡ 0 → (rule b).Answer a → length (commaed (kind.written a)) ≤ bytes)
+    (short : (b : B) → found ≡ Some b → (a : kind.Answer) → number_given (rule b).tests ≡ 0 → (rule b).Answer a → length (commaed (kind.written a)) ≤ bytes)
     (o : Outcome kind.Answer) where
   one-digit : (n : Option B) → Follows (if_named zeros n rule) o → o.code ≤ 9
-  one-digit none h = omega (arith, ap (λ (o : Outcome kind.Answer). o.code) h)
-  one-digit (some b) h = omega (arith, code-is-given (rule b) o h, number_most 9 (rule b).tests (few b))
+  one-digit None h = omega (arith, ap (λ (o : Outcome kind.Answer). o.code) h)
+  one-digit (Some b) h = omega (arith, code-is-given (rule b) o h, number_most 9 (rule b).tests (few b))
 
   own-short : (n : Option B) → found ≡ n → o.code ≡ 0 → Follows (if_named zeros n rule) o → length (commaed (kind.written o.answer)) ≤ bytes
-  own-short none e z h = absurd (let c : ◌≡◌ {A = ℕ} 3 0 = sym (ap (λ (o : Outcome kind.Answer). o.code) h) ∙ z in omega arith)
-  own-short (some b) e z h =
+  own-short None e z h = absurd (let c : ◌≡◌ {A = ℕ} 3 0 = sym (ap (λ (o : Outcome kind.Answer). o.code) h) ∙ z in omega arith)
+  own-short (Some b) e z h =
       let a = answer-follows (rule b) o z h in
       short b e o.answer a.0 a.1
 

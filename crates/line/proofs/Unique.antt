@@ -2,7 +2,7 @@
 use mathlib.Core.Path.{◌≡◌, refl, sym, ap, ◌∙◌, subst}
 use mathlib.Core.Bool.{Bool, true, false, true≢false, ◌||◌}
 use mathlib.Core.List.{List, [], ◌∷◌, ◌++◌}
-use mathlib.Core.Option.{Option, none, some}
+use Rattle.std.specs.Prelude.{Option, None, Some}
 use Prim.Native.Nat.{ℕ, ◌+◌, ◌≤◌}
 use Prim.Native.String.{String}
 use native.Mathlib.Omega.{arith}
@@ -45,8 +45,8 @@ module _ (kind : Kind) (one : (row : List Value) (o o' : Outcome kind.Answer) �
   one_answer line n n' t t' = by (fault_of kind.columns line)
     where
       by : (found : Option Fault) → AnsweredBy kind line found n t → AnsweredBy kind line found n' t' → (n ≡ n') × (t ≡ t')
-      by none h k = row-answer line n n' t t' h k
-      by (some fault) h k = (h.0 ∙ sym k.0, h.1 ∙ sym k.1)
+      by None h k = row-answer line n n' t t' h k
+      by (Some fault) h k = (h.0 ∙ sym k.0, h.1 ∙ sym k.1)
 
   pub one-answer-into : OneAnswerInto kind
   one-answer-into line out out' out'' x y (n, t, a, p) (n', t', b, q) =
@@ -88,8 +88,8 @@ or_true true = refl
 or_true false = refl
 
 -- a fault that is found names a column, and no list has many
-found_few : (columns : List Column) → length columns ≤ 99 → (line : List ℕ) (fault : Fault) → fault_of columns line ≡ some fault → (n : ℕ) → fault ≡ Broken n → n ≤ 99
-found_few columns few line fault found n is = omega (arith, (first-named columns line n (found ∙ ap some is)).to_last)
+found_few : (columns : List Column) → length columns ≤ 99 → (line : List ℕ) (fault : Fault) → fault_of columns line ≡ Some fault → (n : ℕ) → fault ≡ Broken n → n ≤ 99
+found_few columns few line fault found n is = omega (arith, (first-named columns line n (found ∙ ap Some is)).to_last)
 
 module _ (kind : Kind) (bytes : ℕ) (small : (row : List Value) (o : Outcome kind.Answer) → Follows (kind.rule row) o → Small kind bytes o) where
   row-few : (line : List ℕ) (n : ℕ) (t : List ℕ) → RowAnswered kind line n t → n ≤ 9
@@ -99,8 +99,8 @@ module _ (kind : Kind) (bytes : ℕ) (small : (row : List Value) (o : Outcome ki
   numbers-of-lines line n t = by (fault_of kind.columns line)
     where
       by : (found : Option Fault) → AnsweredBy kind line found n t → (leb n 9 || is_fault n) ≡ true
-      by none h = rw (le-leb n 9 (row-few line n t h))
-      by (some fault) h = rw (is-fault fault n h.0) (or_true (leb n 9))
+      by None h = rw (le-leb n 9 (row-few line n t h))
+      by (Some fault) h = rw (is-fault fault n h.0) (or_true (leb n 9))
 
   -- ---- how many bytes
   line-few : (first second : List ℕ) (own : List (List ℕ)) (code digits : ℕ) → length (decimal code) ≤ digits
@@ -115,10 +115,10 @@ module _ (kind : Kind) (bytes : ℕ) (small : (row : List Value) (o : Outcome ki
     answers-fit line n t = by (fault_of kind.columns line) refl
       where
         by : (found : Option Fault) → fault_of kind.columns line ≡ found → AnsweredBy kind line found n t → length t ≤ 29 + bytes
-        by none e (o, h, i, f) =
+        by None e (o, h, i, f) =
             let s = small (values kind.columns line) o h in
             rw f (omega (arith, line-few (field_at 0 line) (field_at 1 line) (own_columns kind o) o.code 1 (few_digits 0 o.code (omega (arith, s.code))), s.own, short line (a-row kind.columns line e)))
-        by (some fault) e (i, f) =
+        by (Some fault) e (i, f) =
             let number = number_of (refusal_of fault) in
             let own = fault_columns kind.own fault in
             rw f (omega (
@@ -134,31 +134,31 @@ module _ (kind : Kind) (bytes : ℕ) (small : (row : List Value) (o : Outcome ki
     where
       by : (found : Option Fault) → AnsweredBy kind line found n t
           → t ≡ (if is_fault n then answer_line (ascii "?") (ascii "?") (blanks kind.own) n otherwise answer_line (field_at 0 line) (field_at 1 line) (blanks kind.own) n)
-      by none (o, h, e, f) =
+      by None (o, h, e, f) =
           let own : own_columns kind o ≡ blanks kind.own = rw (ne_eqb o.code 0 (λ z. not-read (e ∙ z))) in
           rw (few_no_fault n (omega (arith, e, (small (values kind.columns line) o h).code)))
           (f ∙ ap (λ (own : List (List ℕ)). answer_line (field_at 0 line) (field_at 1 line) own o.code) own ∙ ap (answer_line (field_at 0 line) (field_at 1 line) (blanks kind.own)) (sym e))
-      by (some TooLong) (e, f) = rw (is-fault TooLong n e) (f ∙ ap (answer_line (ascii "?") (ascii "?") (blanks kind.own)) (sym e))
-      by (some WrongCount) (e, f) = rw (is-fault WrongCount n e) (f ∙ ap (answer_line (ascii "?") (ascii "?") (blanks kind.own)) (sym e))
-      by (some (Broken field)) (e, f) = absurd (not-14 e)
+      by (Some TooLong) (e, f) = rw (is-fault TooLong n e) (f ∙ ap (answer_line (ascii "?") (ascii "?") (blanks kind.own)) (sym e))
+      by (Some WrongCount) (e, f) = rw (is-fault WrongCount n e) (f ∙ ap (answer_line (ascii "?") (ascii "?") (blanks kind.own)) (sym e))
+      by (Some (Broken field)) (e, f) = absurd (not-14 e)
 
   pub field_named : FieldNamed kind
   field_named line t = by (fault_of kind.columns line) refl
     where
       by : (found : Option Fault) → fault_of kind.columns line ≡ found → AnsweredBy kind line found (number_of FieldBroken) t
           → (field : ℕ) × FirstToBreak kind.columns line field × (t ≡ nameless_line (fault_columns kind.own (Broken field)) FieldBroken)
-      by none e h = absurd (omega (arith, row-few line (number_of FieldBroken) t h))
-      by (some TooLong) e (i, f) = absurd (omega (arith, i))
-      by (some WrongCount) e (i, f) = absurd (omega (arith, i))
-      by (some (Broken field)) e (i, f) = (field, first-named kind.columns line field e, f)
+      by None e h = absurd (omega (arith, row-few line (number_of FieldBroken) t h))
+      by (Some TooLong) e (i, f) = absurd (omega (arith, i))
+      by (Some WrongCount) e (i, f) = absurd (omega (arith, i))
+      by (Some (Broken field)) e (i, f) = (field, first-named kind.columns line field e, f)
 
   -- ---- before request 2
   pub had_answer : HadAnswer kind
   had_answer line n t = by (fault_of kind.columns line) refl
     where
       by : (found : Option Fault) → fault_of kind.columns line ≡ found → AnsweredBy kind line found n t → (before : ℕ) × (text_before : List ℕ) × AnsweredBefore kind line before text_before
-      by none e h = (n, t, rw (a-row kind.columns line e) h)
-      by (some fault) e h = (10, answer_line (ascii "?") (ascii "?") (blanks kind.own) 10, rw (some_fault kind.columns line fault e) (refl, refl))
+      by None e h = (n, t, rw (a-row kind.columns line e) h)
+      by (Some fault) e h = (10, answer_line (ascii "?") (ascii "?") (blanks kind.own) 10, rw (some_fault kind.columns line fault e) (refl, refl))
 
   module _ (one : (row : List Value) (o o' : Outcome kind.Answer) → Follows (kind.rule row) o → Follows (kind.rule row) o' → o ≡ o') where
     pub were_tens : WereTens kind
@@ -166,11 +166,11 @@ module _ (kind : Kind) (bytes : ℕ) (small : (row : List Value) (o : Outcome ki
       where
         by : (found : Option Fault) → fault_of kind.columns line ≡ found → AnsweredBy kind line found n t
             → (is_fault n ≡ eqb before 10) × (is_fault n ≡ false → (n ≡ before) × (t ≡ text_before))
-        by none e h =
+        by None e h =
             let row : RowAnswered kind line before text_before = rw (a-row kind.columns line e) at k in
             let same = row-answer kind one line n before t text_before h row in
             (few_no_fault n (row-few line n t h) ∙ sym (ne_eqb before 10 (λ z. omega (arith, z, row-few line before text_before row))), λ z. same)
-        by (some fault) e h =
+        by (Some fault) e h =
             let ten : (before ≡ 10) × (text_before ≡ answer_line (ascii "?") (ascii "?") (blanks kind.own) 10) = rw (some_fault kind.columns line fault e) at k in
             (is-fault fault n h.0 ∙ sym (eq-eqb before 10 ten.0), λ z. absurd (true≢false (sym (is-fault fault n h.0) ∙ z)))
 

@@ -2,7 +2,8 @@
 use mathlib.Core.Path.{◌≡◌, refl, sym, ◌∙◌, subst}
 use mathlib.Core.Bool.{false, true≢false}
 use mathlib.Core.List.{List}
-use mathlib.Core.Option.{Option, none, some, none-ne-some}
+use Rattle.std.specs.Prelude.{Option, None, Some}
+use Rattle.std.proofs.lemmas.Option.{none-some}
 use Prim.Native.Nat.{ℕ, ◌≤◌}
 use native.Mathlib.Omega.{arith}
 use lib.Dec.{eqb}
@@ -40,9 +41,9 @@ module _ (after : Kind) (columns : List Column) (rule : List Value → Rule afte
   said = row_says columns after.columns wider line
 
   -- no field was broken where the number is not 14
-  none-broken : (n : ℕ) (t : List ℕ) → Answered before line n t → eqb n 14 ≡ false → (k : ℕ) → fault_of columns line ≡ some (Broken k) → ⊥
+  none-broken : (n : ℕ) (t : List ℕ) → Answered before line n t → eqb n 14 ≡ false → (k : ℕ) → fault_of columns line ≡ Some (Broken k) → ⊥
   none-broken n t h not-14 k e =
-      let broken : AnsweredBy before line (some (Broken k)) n t = rw e at h in
+      let broken : AnsweredBy before line (Some (Broken k)) n t = rw e at h in
       true≢false (sym (eq-eqb n 14 broken.0) ∙ not-14)
 
   stays : (n : ℕ) (t : List ℕ) → Answered before line n t → may_move n ≡ false → Answered after line n t
@@ -52,24 +53,24 @@ module _ (after : Kind) (columns : List Column) (rule : List Value → Rule afte
       neither = or_false (eqb n 1) (eqb n 14) stay
 
       by : (found : Option Fault) → fault_of after.columns line ≡ found → AnsweredBy before line found n t → Answered after line n t
-      by none e (o, h, i, f) =
+      by None e (o, h, i, f) =
           let row = values after.columns line in
           let follows : Follows (rule row) o = rw said at h in
           let due : RowAnswered after line n t = (o, (moves row).stays o follows (rw i at neither.0), i, f) in
           subst (λ (found : Option Fault). AnsweredBy after line found n t) (sym e) due
-      by (some fault) e h = subst (λ (found : Option Fault). AnsweredBy after line found n t) (sym e) h
+      by (Some fault) e h = subst (λ (found : Option Fault). AnsweredBy after line found n t) (sym e) h
 
   had : (n : ℕ) (t : List ℕ) → Answered after line n t → (old : ℕ) × (old_text : List ℕ) × Answered before line old old_text
   had n t h = by (fault_of columns line) refl
     where
       by : (found : Option Fault) → fault_of columns line ≡ found → (old : ℕ) × (old_text : List ℕ) × Answered before line old old_text
-      by (some fault) e =
+      by (Some fault) e =
           let old = number_of (refusal_of fault) in
           let text = fault_line before fault in
           (old, text, subst (λ (found : Option Fault). AnsweredBy before line found old text) (sym e) (refl, refl))
-      by none e =
+      by None e =
           let row = values after.columns line in
-          let still : fault_of after.columns line ≡ none = fault-stays columns after.columns wider line (λ k z. none-ne-some (Broken k) (sym e ∙ z)) ∙ e in
+          let still : fault_of after.columns line ≡ None = fault-stays columns after.columns wider line (λ k z. none-some (Broken k) (sym e ∙ z)) ∙ e in
           let (o', follows, i, f) : RowAnswered after line n t = rw still at h in
           let (o, old_follows) = (moves row).had o' follows in
           let text = answer_line (field_at 0 line) (field_at 1 line) (own_columns before o) o.code in

@@ -1,6 +1,5 @@
 -- A list has a kind, and a line of it an answer.
-use Rattle.std.specs.Prelude.{◌≡◌, Bool, ◌||◌, List, [], ◌∷◌, ◌++◌, map, ℕ, eqb}
-use Rattle.std.proofs.Math.Option.{Option, none, some}
+use Rattle.std.specs.Prelude.{◌≡◌, Bool, ◌||◌, List, [], ◌∷◌, ◌++◌, map, ℕ, eqb, Option, None, Some}
 use Prim.Native.String.{String}
 use Rattle.whole.specs.Choice.{if◌then◌otherwise◌}
 use Rattle.whole.specs.Text.{ascii}
@@ -83,8 +82,8 @@ wrong_header_line kind = nameless_line (blanks kind.own) WrongHeader
 -- What is answered to a line, given without its CRLF: the number, 0 where there is an answer, and the bytes to be written. 12, 13, 14: its fault; then what its
 -- row is answered.
 abbrev pub AnsweredBy : Kind → List ℕ → Option Fault → ℕ → List ℕ → Type 0
-AnsweredBy kind line none number text = RowAnswered kind line number text
-AnsweredBy kind line (some fault) number text = (number ≡ number_of (refusal_of fault)) × (text ≡ fault_line kind fault)
+AnsweredBy kind line None number text = RowAnswered kind line number text
+AnsweredBy kind line (Some fault) number text = (number ≡ number_of (refusal_of fault)) × (text ≡ fault_line kind fault)
 
 abbrev pub Answered : Kind → List ℕ → ℕ → List ℕ → Type 0
 Answered kind line number text = AnsweredBy kind line (fault_of kind.columns line) number text

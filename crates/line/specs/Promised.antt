@@ -1,6 +1,5 @@
 -- What is promised of answers to lines besides each call's own outcome.
-use Rattle.std.specs.Prelude.{◌≡◌, Bool, true, false, ◌||◌, List, map, ℕ, ◌≤◌, leb, eqb, length}
-use Rattle.std.proofs.Math.Option.{none}
+use Rattle.std.specs.Prelude.{◌≡◌, Bool, true, false, ◌||◌, List, map, ℕ, ◌≤◌, leb, eqb, length, None}
 use Rattle.whole.specs.Choice.{if◌then◌otherwise◌}
 use Rattle.whole.specs.Text.{ascii}
 use Rattle.quantity.specs.Refusals.{number_of}
@@ -108,5 +107,5 @@ CanBeTyped = (r : ℕ) → r ≤ limits.largest → (is_number limits.digits (de
 -- So the limit of 200 bytes refuses none whose fields keep their rules.
 abbrev pub ReadingsShort : Type 0
 ReadingsShort =
-    (line : List ℕ) → length (fields line) ≡ length readings.columns → first_broken 1 (map held readings.columns) (fields line) ≡ none
+    (line : List ℕ) → length (fields line) ≡ length readings.columns → first_broken 1 (map held readings.columns) (fields line) ≡ None
     → length line ≤ 129

@@ -38,7 +38,7 @@ pub fn no_room() -> Placing
 }
 
 // Writes a text that stands for a line with this number, or nothing where the buffer is too short.
-pub fn place(number: u8, text: &[u8], out: &mut [u8]) -> Placing
+pub fn place_text(number: u8, text: &[u8], out: &mut [u8]) -> Placing
     ensures { PlacedAs number text.now out.old out.new result }
 {
     if out.len() < text.len() {

@@ -1,8 +1,10 @@
 // The answer to one line of a list, written into a lent buffer.
 #![tactic(auto)]
 
+mod kind;
 mod lent;
 mod readings;
 
-pub use lent::{LineAnswer, Placing, place, place_fault, place_refused};
-pub use readings::{answer_reading, place_reading};
+pub use kind::{Kind, answer, place};
+pub use lent::{LineAnswer, Placing, place_fault, place_refused, place_text};
+pub use readings::Readings;

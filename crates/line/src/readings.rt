@@ -1,17 +1,17 @@
 // The answer to a row of a list of readings.
-ghost use Rattle.std.specs.Prelude.{◌≡◌, true, ◌++◌, ◌≤◌, length};
-ghost use Rattle.text.specs.Columns.{well_formed, longest_line};
+ghost use Rattle.std.specs.Prelude.{◌++◌, ◌≤◌, length, refl};
+ghost use Rattle.std.proofs.Common.{rules};
+ghost use Rattle.text.specs.Columns.{longest_line};
 ghost use Rattle.text.specs.Decimal.{decimal, signed_decimal};
-ghost use Rattle.row.specs.Readings.{columns, row_of};
 ghost use Rattle.line.specs.Writing.{read_text};
-ghost use Rattle.line.specs.Lent.{PlacedAs, AnsweredAs, AnsweredInto};
+ghost use Rattle.line.specs.Lent.{PlacedAs};
 ghost use Rattle.line.specs.Readings.{readings};
 
+use crate::kind::Kind;
 use crate::lent;
 use crate::lent::{LineAnswer, Placing};
-use law::ReadingAnswer;
 use quantity::Celsius;
-use row::{ReadingParsed, ReadingRow};
+use row::ReadingRow;
 
 // The names, a sign and a number, for a line that was read.
 fn put_read(names: &[u8], sign: &[u8], size: u64, out: &mut [u8]) -> Placing
@@ -42,38 +42,37 @@ fn put_step(names: &[u8], step: Celsius, out: &mut [u8]) -> Placing
     requires { length names.now ≤ longest_line }
     ensures { PlacedAs 0 (read_text names.now (signed_decimal step.0)) out.old out.new result }
 {
-    let size = whole::magnitude(step.0);
-    if whole::less(step.0, 0) {
+    let size = step.0.unsigned_abs();
+    if step.0 < 0 {
         return put_read(names, b"-", size, out);
     }
     put_read(names, b"", size, out)
 }
 
-fn answer_row(line: &[u8], row: ReadingRow, out: &mut [u8]) -> Placing
-    requires { (well_formed columns line.now ≡ true) × (row ≡ row_of line.now) }
-    ensures { AnsweredAs readings line.now out.old out.new result }
-{
-    let names = row.names;
-    match reading::read(row.certificate, row.r, row.r0) {
-        ReadingAnswer::Read(reading) => put_step(&line[..names], reading.step, out),
-        ReadingAnswer::Refused(why) => lent::place_refused(&line[..names], b",", why.number(), out),
-    }
-}
+// The list of readings.
+#[derive(Clone, Copy)]
+pub struct Readings;
 
-// Answers one line, given without its CRLF, into a lent buffer, and says whether the answer fitted.
-pub fn place_reading(line: &[u8], out: &mut [u8]) -> Placing
-    ensures { AnsweredAs readings line.now out.old out.new result }
-{
-    match row::parse_reading(line) {
-        ReadingParsed::Row(row) => answer_row(line, row, out),
-        ReadingParsed::NoRow(fault) => lent::place_fault(fault, b",", out),
-    }
-}
+impl Kind for Readings {
+    type Row = ReadingRow;
 
-// Answers one line, given without its CRLF, into a lent buffer: its first bytes, or 11 and no byte where it is too short.
-pub fn answer_reading(line: &[u8], out: &mut [u8]) -> LineAnswer
-    ensures { AnsweredInto readings line.now out.old out.new result }
-{
-    let x = place_reading(line, out);
-    x.answer
+    ghost kind = { readings };
+
+    ghost columns = { refl };
+
+    ghost own = { Prim.search rules };
+
+    ghost few = { Prim.search rules };
+
+    fn commas() -> &'static [u8] {
+        b","
+    }
+
+    fn answer_row(line: &[u8], row: ReadingRow, out: &mut [u8]) -> Placing {
+        let names = &line[..row.names];
+        match reading::read(row.certificate, row.r, row.r0) {
+            Ok(reading) => put_step(names, reading.step, out),
+            Err(why) => lent::place_refused(names, b",", why.number(), out),
+        }
+    }
 }

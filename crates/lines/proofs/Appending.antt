@@ -54,15 +54,6 @@ module _ (before s : List ℕ) (count : ℕ) (long : length before ≡ most_held
       sym (ap (λ (x : List ℕ). x ++ drop (most_held - 1) before) (take-append-le (most_held - 1) (take count before) s (omega (arith, begun-long)) ∙ take-take (most_held - 1) count before h)
       ∙ take-append-drop (most_held - 1) before)
 
-  -- s fits, or its last byte goes to the last place
-  pub append-fits : (after : List ℕ) → count + length s ≤ most_held → after ≡ take count before ++ s ++ drop (count + length s) before → Appended before count s after (count + length s)
-  append-fits after h e =
-      let whole : capped line ≡ line = capped-under line (omega (arith, line-long)) in
-      record {
-        counted = sym (ap length whole ∙ line-long);
-        bytes = e ∙ ap (λ (x : List ℕ). x ++ drop (count + length s) before) (sym whole);
-      }
-
   pub append-over : (filled : List ℕ) → most_held < count + length s → filled ≡ take (most_held - 1) line ++ drop (most_held - 1) before
       → Appended before count s (set filled (most_held - 1) (get_or s (length s - 1) 0)) most_held
   append-over filled k e =

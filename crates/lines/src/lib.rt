@@ -2,7 +2,7 @@
 #![tactic(auto)]
 
 ghost use Rattle.std.specs.Prelude.{◌≡◌, ◌++◌, ◌+◌, ◌-◌, ◌≤◌, ◌<◌, length, take, drop};
-ghost use Rattle.whole.specs.Any.{any};
+ghost use Rattle.std.specs.List.{list_any};
 ghost use Rattle.lines.specs.Held.{most_held, Appended};
 ghost use Rattle.lines.specs.Ends.{byte_before, EndsAfter};
 ghost use Rattle.lines.specs.Feeds.{feed, NoFeed, FirstFeed};
@@ -20,42 +20,29 @@ fn byte_before(last: u8, s: &[u8], i: usize) -> u8
     requires { i ≤ length s.now }
     ensures { result ≡ byte_before last s.now i }
 {
-    if i == 0 {
-        return last;
+    if i == 0 { last } else { s[i - 1] }
+}
+
+// A LF stands among the N bytes from i on. All are tested, with no branch between: the compiler makes comparisons of vectors of it.
+fn feed_in<const N: usize>(s: &[u8], i: usize) -> bool
+    requires { i + N ≤ length s.now }
+    ensures { result ≡ list_any feed (take N (drop i s.now)) }
+{
+    let mut found = false;
+    for b in &s[i..i + N] {
+        found |= *b == b'\n';
     }
-    s[i - 1]
+    found
 }
 
-// A LF stands among the eight bytes from i on. All are tested, with no branch between: the compiler makes one comparison of vectors of it.
-fn feed_in_eight(s: &[u8], i: usize) -> bool
-    requires { i + 8 ≤ length s.now }
-    ensures { result ≡ any feed (take 8 (drop i s.now)) }
-{
-    (s[i] == b'\n')
-        | (s[i + 1] == b'\n')
-        | (s[i + 2] == b'\n')
-        | (s[i + 3] == b'\n')
-        | (s[i + 4] == b'\n')
-        | (s[i + 5] == b'\n')
-        | (s[i + 6] == b'\n')
-        | (s[i + 7] == b'\n')
-}
-
-fn feed_in_sixteen(s: &[u8], i: usize) -> bool
-    requires { i + 16 ≤ length s.now }
-    ensures { result ≡ any feed (take 16 (drop i s.now)) }
-{
-    feed_in_eight(s, i) | feed_in_eight(s, i + 8)
-}
-
-// Passes over sixteen bytes at a time that have no LF, from an offset on.
+// Passes over sixteen bytes at a time that have no LF, from an offset on: a turn is a comparison of vectors.
 fn skip(s: &[u8], from: usize) -> usize
     requires { from ≤ length s.now }
     ensures { NoFeed s.now from result }
 {
     let mut i = from;
     while s.len() - i >= 16 {
-        if feed_in_sixteen(s, i) {
+        if feed_in::<16>(s, i) {
             return i;
         }
         i += 16;
@@ -72,7 +59,7 @@ fn skip_more(s: &[u8], from: usize) -> usize
     if s.len() - i < 8 {
         return i;
     }
-    if feed_in_eight(s, i) {
+    if feed_in::<8>(s, i) {
         return i;
     }
     i + 8
@@ -83,14 +70,13 @@ fn feed_from(s: &[u8], from: usize) -> usize
     requires { from ≤ length s.now }
     ensures { FirstFeed s.now from result }
 {
-    let mut i = skip_more(s, from);
-    while i < s.len() {
-        if s[i] == b'\n' {
-            return i;
+    let start = skip_more(s, from);
+    for (k, b) in s[start..].iter().enumerate() {
+        if *b == b'\n' {
+            return start + k;
         }
-        i += 1;
     }
-    i
+    s.len()
 }
 
 // The offset of the first LF that ends a line, or the length where there is none. `last` is the last byte of the partial line before s, 0 where that is empty.
@@ -115,7 +101,6 @@ fn fill(held: &mut [u8], count: usize, s: &[u8])
 {
     if count < LAST_HELD {
         text::put(held, count, &s[..LAST_HELD - count]);
-        return;
     }
 }
 

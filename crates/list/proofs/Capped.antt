@@ -2,7 +2,7 @@
 use mathlib.Core.Path.{◌≡◌, refl, sym, ap, ◌∙◌, subst}
 use mathlib.Core.Bool.{Bool, true, false, true≢false}
 use mathlib.Core.List.{List, [], ◌∷◌, ◌++◌}
-use mathlib.Core.Option.{Option, none}
+use Rattle.std.specs.Prelude.{Option, None}
 use Prim.Native.Nat.{ℕ, ◌-◌, ◌≤◌, ◌<◌}
 use native.Mathlib.Omega.{arith}
 use lib.ListN.{length}
@@ -17,7 +17,9 @@ use Rattle.list.specs.declared.kinds.Desk.{Desk}
 use Rattle.list.specs.declared.state.Stage.{Stage}
 use Rattle.list.specs.declared.state.Stage.TheVariants.{Header, Rows, Stopped}
 use Rattle.lines.specs.Lines.{all_but_last, ends_line, ended}
-use Rattle.list.specs.Kinds.{kind_of, taken, kind_headed, headed}
+use Rattle.list.specs.Kinds.{kind_of, taken, headed}
+use Rattle.std.specs.List.{find}
+use Rattle.std.specs.Str.{bytes_eq}
 use Rattle.lines.specs.Held.{most_held, capped}
 use Rattle.list.specs.Feeding.{HeaderDue, Due, after_header, next, DueToAll, DueAtEnd}
 use Rattle.lines.proofs.Capped.{Alike, equal, over, alike_sym, capped-alike, alike-ends, alike-byte}
@@ -25,11 +27,11 @@ use Rattle.list.proofs.Same.{same_not}
 use Rattle.list.proofs.Headers.{headers_short}
 
 -- no header is that long
-headed-not : (ks : List Kind) (line : List ℕ) → longest_line < length line → kind_headed ks line ≡ none
+headed-not : (ks : List Kind) (line : List ℕ) → longest_line < length line → find (λ kind. bytes_eq (input_header (kind_of kind)) line) ks ≡ None
 headed-not [] line h = refl
-headed-not (k ∷ ks) line h = rw (same_not line (input_header (kind_of k)) (λ e. omega (arith, headers_short k))) (headed-not ks line h)
+headed-not (k ∷ ks) line h = rw (same_not (input_header (kind_of k)) line (λ e. omega (arith, headers_short k))) (headed-not ks line h)
 
-over_not_header : (desk : Desk) (line : List ℕ) → longest_line < length line → headed desk line ≡ none
+over_not_header : (desk : Desk) (line : List ℕ) → longest_line < length line → headed desk line ≡ None
 unfolding headed
 over_not_header desk line h = headed-not (taken desk) line h
 

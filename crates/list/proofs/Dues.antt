@@ -1,7 +1,7 @@
 -- What is due to lines: to some after others, and that it is one text with its numbers, which is short.
 use mathlib.Core.Path.{◌≡◌, refl, sym, ap, ap₂, ◌∙◌, subst}
 use mathlib.Core.List.{List, [], ◌∷◌, ◌++◌, append_assoc, append-nil}
-use mathlib.Core.Option.{Option, none, some}
+use Rattle.std.specs.Prelude.{Option, None, Some}
 use Prim.Native.Nat.{ℕ, ◌+◌, ◌≤◌}
 use native.Mathlib.Omega.{arith}
 use lib.ListN.{length, length-append}
@@ -67,8 +67,8 @@ due_parted g later (line ∷ x) y ns text (n, first, more, rest, due, all, i, e)
 
 -- ---- one text, number and stage
 header_unique : (desk : Desk) (k : Option Kind) (n n' : ℕ) (t t' : List ℕ) → HeaderDue desk k n t → HeaderDue desk k n' t' → (n ≡ n') × (t ≡ t')
-header_unique desk none n n' t t' h i = (h.0 ∙ sym i.0, h.1 ∙ sym i.1)
-header_unique desk (some k) n n' t t' h i = (h.0 ∙ sym i.0, h.1 ∙ sym i.1)
+header_unique desk None n n' t t' h i = (h.0 ∙ sym i.0, h.1 ∙ sym i.1)
+header_unique desk (Some k) n n' t t' h i = (h.0 ∙ sym i.0, h.1 ∙ sym i.1)
 
 pub due_unique : (g : Stage) (line : List ℕ) (n n' : ℕ) (t t' : List ℕ) → Due g line n t → Due g line n' t' → (n ≡ n') × (t ≡ t')
 due_unique (Header desk) line n n' t t' h i = header_unique desk (headed desk line) n n' t t' h i
@@ -114,8 +114,8 @@ wrong_small Launch n t = small (λ e. omega arith) (omega arith)
 wrong_small Bench n t = small (λ e. omega arith) (omega arith)
 
 header_small : (desk : Desk) (k : Option Kind) (n : ℕ) (t : List ℕ) → HeaderDue desk k n t → Small (room desk) n t
-header_small desk none n t h = wrong_small desk n t h
-header_small desk (some k) n t (i, j) = record { number = λ e. omega (arith, i, e); text = rw j (header_short desk k) }
+header_small desk None n t h = wrong_small desk n t h
+header_small desk (Some k) n t (i, j) = record { number = λ e. omega (arith, i, e); text = rw j (header_short desk k) }
 
 pub due-small : (g : Stage) (line : List ℕ) (n : ℕ) (t : List ℕ) → Due g line n t → Small (room_at g) n t
 due-small (Header desk) line n t h = header_small desk (headed desk line) n t h

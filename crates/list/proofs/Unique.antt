@@ -1,7 +1,7 @@
 -- A list has one answer, and feeding and ending promise one outcome.
 use mathlib.Core.Path.{◌≡◌, sym, ap, ap₂, ◌∙◌, subst}
 use mathlib.Core.Bool.{true}
-use mathlib.Core.Option.{Option, none, some}
+use Rattle.std.specs.Prelude.{Option, None, Some}
 use mathlib.Core.List.{List, [], ◌∷◌, ◌++◌}
 use Prim.Native.Nat.{ℕ, suc, ◌+◌, ◌-◌, ◌≤◌, ◌<◌}
 use native.Mathlib.Decide.{dec_lt}
@@ -37,8 +37,8 @@ rows_unique k (line ∷ others) o o' (n, t, rest, h, more, e) (n', t', rest', h'
     e ∙ ap₂ (λ (x : List ℕ) (y : List ℕ). x ++ y) ((kept_of k).one line n n' t t' h h').1 (rows_unique k others rest rest' more more') ∙ sym e'
 
 header_unique : (desk : Desk) (k : Option Kind) (others : List (List ℕ)) (o o' : List ℕ) → HeaderAnswered desk k others o → HeaderAnswered desk k others o' → o ≡ o'
-header_unique desk none others o o' h i = h ∙ sym i
-header_unique desk (some k) others o o' (rest, h, e) (rest', h', e') = e ∙ ap (λ (x : List ℕ). output_header (kind_of k) ++ x) (rows_unique k others rest rest' h h') ∙ sym e'
+header_unique desk None others o o' h i = h ∙ sym i
+header_unique desk (Some k) others o o' (rest, h, e) (rest', h', e') = e ∙ ap (λ (x : List ℕ). output_header (kind_of k) ++ x) (rows_unique k others rest rest' h h') ∙ sym e'
 
 lines_unique : (desk : Desk) (ls : List (List ℕ)) (o o' : List ℕ) → LinesAnswered desk ls o → LinesAnswered desk ls o' → o ≡ o'
 lines_unique desk [] o o' h k = h ∙ sym k

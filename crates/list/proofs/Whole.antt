@@ -1,6 +1,6 @@
 -- However a list is cut, all that is written is its answer; and a buffer that holds any answer line is enough.
 use mathlib.Core.Path.{◌≡◌, refl, sym, ap, ap₂, ◌∙◌, subst}
-use mathlib.Core.Option.{Option, none, some}
+use Rattle.std.specs.Prelude.{Option, None, Some}
 use mathlib.Core.List.{List, [], ◌∷◌, ◌++◌, append_assoc, append-nil}
 use Prim.Native.Nat.{ℕ}
 use native.Mathlib.Decide.{dec_lt}
@@ -132,17 +132,17 @@ nothing_said (row ∷ ls) line ns text last n later (m, first, more, rest, due, 
 
 header_said : (desk : Desk) (k : Option Kind) (text last : List ℕ) (ls : List (List ℕ)) (line first ns rest : List ℕ) (m n : ℕ) (later : Stage) → HeaderDue desk k m first
     → DueToAll (after_header k) ls ns rest later → DueAtEnd later line n last → text ≡ first ++ rest → HeaderAnswered desk k (ls ++ last_line line) (text ++ last)
-header_said desk none text last ls line first ns rest m n later due more k e =
+header_said desk None text last ls line first ns rest m n later due more k e =
     ap (λ (x : List ℕ). x ++ last) (e ∙ ap (λ (x : List ℕ). x ++ rest) due.1) ∙ append_assoc (wrong_header desk) rest last
     ∙ ap (λ (x : List ℕ). wrong_header desk ++ x) (nothing_said ls line ns rest last n later more k) ∙ append-nil (wrong_header desk)
-header_said desk (some kind) text last ls line first ns rest m n later due more k e =
+header_said desk (Some kind) text last ls line first ns rest m n later due more k e =
     let start = output_header (kind_of kind) in
     (rest ++ last, rows_said kind ls line ns rest last n later more k, ap (λ (x : List ℕ). x ++ last) (e ∙ ap (λ (x : List ℕ). x ++ rest) due.1) ∙ append_assoc start rest last)
 
 -- a header that is the last line
 header_last : (desk : Desk) (k : Option Kind) (n : ℕ) (last : List ℕ) → HeaderDue desk k n last → HeaderAnswered desk k [] last
-header_last desk none n last (e, f) = f
-header_last desk (some kind) n last (e, f) = ([], refl, f ∙ sym (append-nil (output_header (kind_of kind))))
+header_last desk None n last (e, f) = f
+header_last desk (Some kind) n last (e, f) = ([], refl, f ∙ sym (append-nil (output_header (kind_of kind))))
 
 lines-said : (desk : Desk) (ls : List (List ℕ)) (line ns text last : List ℕ) (n : ℕ) (later : Stage) → DueToAll (Header desk) ls ns text later → DueAtEnd later line n last
     → LinesAnswered desk (ls ++ last_line line) (text ++ last)
@@ -165,9 +165,9 @@ goes_on st chunk out out' x f enough more =
     elim (dec_lt 0 x.used) [
       | yes h ↦ h
       | no h ↦
-          let none : x.used ≡ 0 = omega (arith, h) in
+          let None : x.used ≡ 0 = omega (arith, h) in
           let full = f.full (omega arith) in
-          let nothing : DueToAll st.stage [] f.numbers f.text x.state.stage = subst (λ (n : ℕ). DueToAll st.stage (ended (line_of st) (take n chunk)) f.numbers f.text x.state.stage) none f.due in
+          let nothing : DueToAll st.stage [] f.numbers f.text x.state.stage = subst (λ (n : ℕ). DueToAll st.stage (ended (line_of st) (take n chunk)) f.numbers f.text x.state.stage) None f.due in
           let wrote : x.wrote ≡ 0 = f.wrote ∙ ap length nothing.1 in
           let due = subst (λ (g : Stage). Due g (all_but_last (line_of x.state)) full.number full.text) nothing.2 full.due in
           absurd (omega (arith, wrote, full.no_room, (due-small st.stage (all_but_last (line_of x.state)) full.number full.text due).text))

@@ -1,6 +1,5 @@
 -- A list that comes in chunks.
-use Rattle.std.specs.Prelude.{◌≡◌, true, List, [], ◌∷◌, ◌++◌, ℕ, ◌+◌, ◌≤◌, ◌<◌, ltb, length, get_or, take, drop}
-use Rattle.std.proofs.Math.Option.{Option, none, some}
+use Rattle.std.specs.Prelude.{◌≡◌, true, List, [], ◌∷◌, ◌++◌, ℕ, ◌+◌, ◌≤◌, ◌<◌, ltb, length, get_or, take, drop, Option, None, Some}
 use Rattle.whole.specs.Choice.{if◌then◌otherwise◌}
 use Rattle.quantity.specs.Refusals.{number_of}
 use Rattle.quantity.specs.declared.refusal.Refusal.TheVariants.{WrongHeader, BufferShort}
@@ -20,8 +19,8 @@ use Rattle.list.specs.Tallies.{tally_of}
 
 -- The number and the text that are due to a header: by the kind of list that it names.
 abbrev pub HeaderDue : Desk → Option Kind → ℕ → List ℕ → Type 0
-HeaderDue desk none number text = (number ≡ number_of WrongHeader) × (text ≡ wrong_header desk)
-HeaderDue desk (some k) number text = (number ≡ 0) × (text ≡ output_header (kind_of k))
+HeaderDue desk None number text = (number ≡ number_of WrongHeader) × (text ≡ wrong_header desk)
+HeaderDue desk (Some k) number text = (number ≡ 0) × (text ≡ output_header (kind_of k))
 
 -- The number and the text that are due to a line: as the header, after the header, and after a wrong one, where nothing is read any more.
 abbrev pub Due : Stage → List ℕ → ℕ → List ℕ → Type 0
@@ -31,8 +30,8 @@ Due Stopped line number text = (number ≡ 0) × (text ≡ [])
 
 -- What comes after a line.
 abbrev pub after_header : Option Kind → Stage
-after_header none = Stopped
-after_header (some k) = Rows k
+after_header None = Stopped
+after_header (Some k) = Rows k
 
 abbrev pub next : Stage → List ℕ → Stage
 next (Header desk) line = after_header (headed desk line)

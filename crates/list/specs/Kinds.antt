@@ -1,7 +1,7 @@
 -- The kinds of lists, which of them a desk takes, and by which header each is known.
-use Rattle.std.specs.Prelude.{Bool, true, false, ◌&&◌, List, [], ◌∷◌, ◌++◌, ℕ, eqb, get_or}
-use Rattle.std.proofs.Math.Option.{Option, none, some}
-use Rattle.whole.specs.Choice.{if◌then◌otherwise◌}
+use Rattle.std.specs.Prelude.{List, [], ◌∷◌, ◌++◌, ℕ, get_or, Option}
+use Rattle.std.specs.List.{find}
+use Rattle.std.specs.Str.{bytes_eq}
 use Rattle.line.specs.Kinds as line
 use Rattle.line.specs.Kinds.{input_header, output_header, wrong_header_line}
 use Rattle.line.specs.Readings.{readings, reading_room}
@@ -13,8 +13,6 @@ use Rattle.list.specs.declared.kinds.Kind.{Kind}
 use Rattle.list.specs.declared.kinds.Kind.TheVariants as kind
 use Rattle.list.specs.declared.kinds.Desk.{Desk}
 use Rattle.list.specs.declared.kinds.Desk.TheVariants.{Launch, Bench}
-use Rattle.list.specs.declared.kinds.Headed.{Headed}
-use Rattle.list.specs.declared.kinds.Headed.TheVariants.{As, Unknown}
 
 abbrev pub kind_of : Kind → line.Kind
 kind_of kind.Readings = readings
@@ -32,25 +30,9 @@ taken Bench = kind.Records ∷ kind.Resistances ∷ kind.Steps ∷ kind.Toleranc
 abbrev pub first_kind : Desk → Kind
 first_kind desk = get_or (taken desk) 0 kind.Readings
 
--- The same bytes.
-abbrev pub same : List ℕ → List ℕ → Bool
-same [] [] = true
-same [] (b ∷ t) = false
-same (a ∷ s) [] = false
-same (a ∷ s) (b ∷ t) = eqb a b && same s t
-
 -- The kind of list whose header a line is, if any.
-abbrev pub kind_headed : List Kind → List ℕ → Option Kind
-kind_headed [] line = none
-kind_headed (k ∷ ks) line = if same line (input_header (kind_of k)) then some k otherwise kind_headed ks line
-
 unfoldable pub headed : Desk → List ℕ → Option Kind
-headed desk line = kind_headed (taken desk) line
-
--- What each case stands for.
-abbrev pub stated_kind : Headed → Option Kind
-stated_kind (As k) = some k
-stated_kind Unknown = none
+headed desk line = find (λ kind. bytes_eq (input_header (kind_of kind)) line) (taken desk)
 
 -- To a wrong header, none at all included, the output's header of the first kind and the line that says so.
 abbrev pub wrong_header : Desk → List ℕ

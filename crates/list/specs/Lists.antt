@@ -1,6 +1,5 @@
 -- The answer to a list: from all bytes of the input to all bytes of the output.
-use Rattle.std.specs.Prelude.{◌≡◌, List, [], ◌∷◌, ◌++◌, ℕ}
-use Rattle.std.proofs.Math.Option.{Option, none, some}
+use Rattle.std.specs.Prelude.{◌≡◌, List, [], ◌∷◌, ◌++◌, ℕ, Option, None, Some}
 use Rattle.lines.specs.Lines.{lines}
 use Rattle.line.specs.Kinds.{output_header, Answered}
 use Rattle.list.specs.declared.kinds.Kind.{Kind}
@@ -15,8 +14,8 @@ RowsAnswered k (line ∷ others) output =
 
 -- To the header of a kind, its output's header, and then the answers to the other lines.
 abbrev pub HeaderAnswered : Desk → Option Kind → List (List ℕ) → List ℕ → Type 0
-HeaderAnswered desk none others output = output ≡ wrong_header desk
-HeaderAnswered desk (some k) others output = (rest : List ℕ) × RowsAnswered k others rest × (output ≡ output_header (kind_of k) ++ rest)
+HeaderAnswered desk None others output = output ≡ wrong_header desk
+HeaderAnswered desk (Some k) others output = (rest : List ℕ) × RowsAnswered k others rest × (output ≡ output_header (kind_of k) ++ rest)
 
 abbrev pub LinesAnswered : Desk → List (List ℕ) → List ℕ → Type 0
 LinesAnswered desk [] output = output ≡ wrong_header desk

@@ -2,7 +2,6 @@
 #![tactic(auto)]
 
 mod feeding;
-mod header;
 mod kinds;
 mod replies;
 mod state;

@@ -2,14 +2,14 @@
 ghost use Rattle.std.specs.Prelude.{◌≡◌};
 ghost use Rattle.quantity.specs.Refusals.{number_of};
 ghost use Rattle.quantity.specs.declared.refusal.Refusal.TheVariants.{WrongHeader};
-ghost use Rattle.line.specs.Kinds.{output_header};
 ghost use Rattle.line.specs.Lent.{PlacedAs, AnsweredAs};
 ghost use Rattle.list.specs.Kinds.{kind_of, wrong_header};
 ghost use Rattle.list.specs.Replies.{RepliedAs};
 
-use crate::kinds::{Desk, Headed, Kind, headed_by};
+use crate::kinds::{Desk, Kind};
 use crate::state::Stage;
-use line::{LineAnswer, Placing};
+use bench::{Records, RecordsByResistances, Steps, Tolerances};
+use line::{LineAnswer, Placing, Readings};
 use quantity::Refusal;
 
 // What was answered to a line, and what comes after it.
@@ -25,33 +25,20 @@ pub fn wrong_header(desk: Desk, out: &mut [u8]) -> Placing
 {
     let number = Refusal::WrongHeader.number();
     match desk {
-        Desk::Launch => line::place(number, b"id,law,t,code\r\n?,?,,10\r\n", out),
-        Desk::Bench => line::place(number, b"id,law,a,b,c,d,wal,code\r\n?,?,,,,,,10\r\n", out),
-    }
-}
-
-// The header of the answer to a list of a kind.
-fn answer_header(kind: Kind, out: &mut [u8]) -> Placing
-    ensures { PlacedAs 0 (output_header (kind_of kind)) out.old out.new result }
-{
-    match kind {
-        Kind::Readings => line::place(0, b"id,law,t,code\r\n", out),
-        Kind::Records => line::place(0, b"id,law,a,b,c,d,wal,code\r\n", out),
-        Kind::Resistances => line::place(0, b"id,law,a,b,c,d,wal,code\r\n", out),
-        Kind::Steps => line::place(0, b"id,law,w,code\r\n", out),
-        Kind::Tolerances => line::place(0, b"id,class,result,error,code\r\n", out),
+        Desk::Launch => line::place_text(number, b"id,law,t,code\r\n?,?,,10\r\n", out),
+        Desk::Bench => line::place_text(number, b"id,law,a,b,c,d,wal,code\r\n?,?,,,,,,10\r\n", out),
     }
 }
 
 fn header_reply(desk: Desk, line: &[u8], out: &mut [u8]) -> Reply
     ensures { RepliedAs (Stage.Header desk) line.now out.old out.new result }
 {
-    match headed_by(desk, line) {
-        Headed::As(kind) => Reply {
-            placing: answer_header(kind, out),
+    match desk.headed(line) {
+        Some(kind) => Reply {
+            placing: line::place_text(0, kind.answer_header(), out),
             stage: Stage::Rows(kind),
         },
-        Headed::Unknown => Reply {
+        None => Reply {
             placing: wrong_header(desk, out),
             stage: Stage::Stopped,
         },
@@ -62,11 +49,11 @@ fn place_row(kind: Kind, line: &[u8], out: &mut [u8]) -> Placing
     ensures { AnsweredAs (kind_of kind) line.now out.old out.new result }
 {
     match kind {
-        Kind::Readings => line::place_reading(line, out),
-        Kind::Records => bench::place_record(line, out),
-        Kind::Resistances => bench::place_resistances(line, out),
-        Kind::Steps => bench::place_forward(line, out),
-        Kind::Tolerances => bench::place_tolerance(line, out),
+        Kind::Readings => line::place::<Readings>(line, out),
+        Kind::Records => line::place::<Records>(line, out),
+        Kind::Resistances => line::place::<RecordsByResistances>(line, out),
+        Kind::Steps => line::place::<Steps>(line, out),
+        Kind::Tolerances => line::place::<Tolerances>(line, out),
     }
 }
 

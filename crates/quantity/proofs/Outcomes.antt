@@ -2,7 +2,7 @@
 use mathlib.Core.Path.{◌≡◌, refl, sym, ◌∙◌, ap, ap₂, subst}
 use mathlib.Core.Bool.{Bool, true, false, ◌&&◌}
 use mathlib.Core.List.{List, [], ◌∷◌, ◌++◌}
-use mathlib.Core.Option.{Option, none, some}
+use Rattle.std.specs.Prelude.{Option, None, Some}
 use Prim.Native.Nat.{ℕ, ◌<◌, ◌≤◌}
 use native.Mathlib.Omega.{arith}
 use borrow.Author.Tests.{eqb-true, eqb-false, ne_eqb, ltb-true, leb-true}
@@ -67,8 +67,8 @@ module _ {A : Type 0} (rule : Rule A) where
 
 -- so does that of what a name names, where each of its rules has one answer
 pub one-named : {A B : Type 0} (zeros : A) (named : Option B) (rule : B → Rule A) → ((b : B) (x y : A) → (rule b).Answer x → (rule b).Answer y → x ≡ y) → (o o' : Outcome A) → Follows (if_named zeros named rule) o → Follows (if_named zeros named rule) o' → o ≡ o'
-one-named zeros none rule one o o' h i = h ∙ sym i
-one-named zeros (some b) rule one o o' h i = one-outcome (rule b) (one b) o o' h i
+one-named zeros None rule one o o' h i = h ∙ sym i
+one-named zeros (Some b) rule one o o' h i = one-outcome (rule b) (one b) o o' h i
 
 -- by what a name was found to name
 pub by_name : {A B : Type 0} (zeros : A) (rule : B → Rule A) (found named : Option B) → found ≡ named → (o : Outcome A) → Follows (if_named zeros found rule) o → Follows (if_named zeros named rule) o

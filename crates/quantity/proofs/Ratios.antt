@@ -1,4 +1,5 @@
 -- The ratio of two resistances: what an answered one is, that it is the nearest and rises with R, which are above 4.4, and that only one answer is allowed.
+use Rattle.std.specs.Prelude.{Err, Ok, Result}
 use mathlib.Core.Path.{◌≡◌, refl, sym, ◌∙◌, ap}
 use mathlib.Core.Bool.{true, ◌&&◌, not}
 use mathlib.Core.List.{[], ◌∷◌}
@@ -9,8 +10,8 @@ use native.Mathlib.Omega.{arith}
 use borrow.Author.Tests.{le-ltb, lt-ltb, ltb-false, leb-true, not-false}
 use lib.Dec.{leb, ltb}
 use Rattle.whole.proofs.Choice.{and_true}
-use Rattle.quantity.specs.declared.resistance.RatioAnswer.{RatioAnswer}
-use Rattle.quantity.specs.declared.resistance.RatioAnswer.TheVariants.{Ratio, Refused}
+use Rattle.quantity.specs.declared.refusal.Refusal.{Refusal}
+use Rattle.quantity.specs.declared.resistance.Ratio.{Ratio}
 use Rattle.quantity.specs.Quantities.{one, is_reading, is_divisor, least_divisor, largest_resistance, ratio_of, largest_ratio}
 use Rattle.quantity.specs.Outcomes.{Outcome, ◌gives◌, number_given, Follows}
 use Rattle.quantity.specs.Ratios.{ratio_tests, stated, ratio_rule}
@@ -104,11 +105,11 @@ moved r r0 d =
     (λ h. nearest_below n r0 (n / r0) (n % r0) whole h, λ h. nearest_above n r0 (n / r0) (n % r0) whole h (mod-lt n (divisor_above r0 d)))
 
 -- ---- one answer
-stated_unique : (x y : RatioAnswer) → stated x ≡ stated y → x ≡ y
-stated_unique (Ratio v) (Ratio w) e = ap (λ (o : Outcome ℕ). Ratio (record { 0 = o.answer })) e
-stated_unique (Ratio v) (Refused why) e = absurd (not-answered 0 v.0 why e)
-stated_unique (Refused why) (Ratio w) e = absurd (not-answered 0 w.0 why (sym e))
-stated_unique (Refused v) (Refused w) e = ap Refused (one-refusal 0 v w e)
+stated_unique : (x y : Result Ratio Refusal) → stated x ≡ stated y → x ≡ y
+stated_unique (Ok v) (Ok w) e = ap (λ (o : Outcome ℕ). Ok (record { 0 = o.answer })) e
+stated_unique (Ok v) (Err why) e = absurd (not-answered 0 v.0 why e)
+stated_unique (Err why) (Ok w) e = absurd (not-answered 0 w.0 why (sym e))
+stated_unique (Err v) (Err w) e = ap Err (one-refusal 0 v w e)
 
-pub one-ratio : (r r0 : ℕ) (x y : RatioAnswer) → Follows (ratio_rule r r0) (stated x) → Follows (ratio_rule r r0) (stated y) → x ≡ y
+pub one-ratio : (r r0 : ℕ) (x y : Result Ratio Refusal) → Follows (ratio_rule r r0) (stated x) → Follows (ratio_rule r r0) (stated y) → x ≡ y
 one-ratio r r0 x y h i = stated_unique x y (one-outcome (ratio_rule r r0) (λ v w p q. p ∙ sym q) (stated x) (stated y) h i)

@@ -2,7 +2,7 @@
 use mathlib.Core.Path.{◌≡◌, refl, sym, ◌∙◌}
 use mathlib.Core.Bool.{Bool, true, false, true≢false, ◌&&◌, not}
 use mathlib.Core.List.{List, [], ◌∷◌, ◌++◌}
-use mathlib.Core.Option.{Option, none, some}
+use Rattle.std.specs.Prelude.{Option, None, Some}
 use Prim.Native.Nat.{ℕ, ◌≤◌}
 use native.Mathlib.Omega.{arith}
 use borrow.Author.Tests.{eqb-true, leb-true, le-leb, not-false}
@@ -71,8 +71,8 @@ none_moves rule one = record { stays = λ o h z. h; same = λ o o' h z i. one-ou
 
 -- that of what a name names
 pub named_move : {A B : Type 0} (zeros : A) (named : Option B) (before after : B → Rule A) → ((b : B) → OnlyOnesMove (before b) (after b)) → OnlyOnesMove (if_named zeros named before) (if_named zeros named after)
-named_move zeros none before after move = none_moves (if_named zeros none before) (λ a b p q. absurd p)
-named_move zeros (some b) before after move = move b
+named_move zeros None before after move = none_moves (if_named zeros None before) (λ a b p q. absurd p)
+named_move zeros (Some b) before after move = move b
 
 -- a rule with the tests of a ratio among its own
 pub ratio-among : {A : Type 0} (earlier later : List Test) (zeros : A) (Answer : A → Type 0) → ((a b : A) → Answer a → Answer b → a ≡ b) → (r r0 : ℕ)

@@ -1,6 +1,5 @@
 -- The shape of every outcome: the tests of a call in their order, each with its number; else the answer.
-use Rattle.std.specs.Prelude.{◌≡◌, Bool, true, List, [], ◌∷◌, ℕ, eqb}
-use Rattle.std.proofs.Math.Option.{Option, none, some}
+use Rattle.std.specs.Prelude.{◌≡◌, Bool, true, List, [], ◌∷◌, ℕ, eqb, Option, None, Some}
 use Rattle.whole.specs.Choice.{if◌then◌otherwise◌}
 
 -- An outcome as the scope document has it: the number given, 0 where there is an answer, and what is answered, zeros where there is none.
@@ -39,5 +38,5 @@ Follows rule o =
 
 -- The rule of what a name names. 3: it names nothing.
 abbrev pub if_named : {A B : Type 0} → A → Option B → (B → Rule A) → Rule A
-if_named zeros none rule = record { tests = true gives 3 ∷ []; zeros = zeros; Answer = λ _. ⊥ }
-if_named zeros (some named) rule = rule named
+if_named zeros None rule = record { tests = true gives 3 ∷ []; zeros = zeros; Answer = λ _. ⊥ }
+if_named zeros (Some named) rule = rule named

@@ -6,7 +6,5 @@ mod resistance;
 mod temperature;
 
 pub use refusal::Refusal;
-pub use resistance::{
-    LARGEST_RATIO, Nanoohm, Ratio, RatioAnswer, are_within, ratio_of, ratio_within,
-};
+pub use resistance::{LARGEST_RATIO, Nanoohm, Ratio, are_within, ratio_of, ratio_within};
 pub use temperature::{Celsius, Kelvin};

@@ -2,28 +2,28 @@
 ghost use Rattle.std.specs.Prelude.{◌≡◌};
 ghost use Rattle.quantity.specs.Refusals.{number_of};
 
-// Why there is no answer. One case for each row of the scope document's table, then those of the requests, by their numbers.
-#[derive(Clone, Copy)]
+// Why there is no answer: one case for each row of the scope document's table, then those of the requests, each with the number under which it is given.
+#[derive(Clone, Copy, Debug, PartialEq, Eq)]
 pub enum Refusal {
-    ResistanceOutside,
-    RatioAbove,
-    NameUnknown,
-    CellNotMeasured,
-    PurityCellNotMeasured,
-    Impure,
-    BeyondLimit,
-    BelowRange,
-    AboveRange,
-    WrongHeader,
-    BufferShort,
-    LineTooLong,
-    WrongFieldCount,
-    FieldBroken,
-    NumberUnfit,
-    SerialClash,
-    TooFewPlaces,
-    NotLive,
-    TableBad,
+    ResistanceOutside = 1,
+    RatioAbove = 2,
+    NameUnknown = 3,
+    CellNotMeasured = 4,
+    PurityCellNotMeasured = 5,
+    Impure = 6,
+    BeyondLimit = 7,
+    BelowRange = 8,
+    AboveRange = 9,
+    WrongHeader = 10,
+    BufferShort = 11,
+    LineTooLong = 12,
+    WrongFieldCount = 13,
+    FieldBroken = 14,
+    NumberUnfit = 17,
+    SerialClash = 18,
+    TooFewPlaces = 19,
+    NotLive = 20,
+    TableBad = 23,
 }
 
 impl Refusal {
@@ -31,26 +31,6 @@ impl Refusal {
     pub fn number(self) -> u8
         ensures { result ≡ number_of self }
     {
-        match self {
-            Refusal::ResistanceOutside => 1,
-            Refusal::RatioAbove => 2,
-            Refusal::NameUnknown => 3,
-            Refusal::CellNotMeasured => 4,
-            Refusal::PurityCellNotMeasured => 5,
-            Refusal::Impure => 6,
-            Refusal::BeyondLimit => 7,
-            Refusal::BelowRange => 8,
-            Refusal::AboveRange => 9,
-            Refusal::WrongHeader => 10,
-            Refusal::BufferShort => 11,
-            Refusal::LineTooLong => 12,
-            Refusal::WrongFieldCount => 13,
-            Refusal::FieldBroken => 14,
-            Refusal::NumberUnfit => 17,
-            Refusal::SerialClash => 18,
-            Refusal::TooFewPlaces => 19,
-            Refusal::NotLive => 20,
-            Refusal::TableBad => 23,
-        }
+        self as u8
     }
 }

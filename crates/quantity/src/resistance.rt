@@ -7,18 +7,12 @@ ghost use Rattle.quantity.specs.Ratios.{ratio_rule, stated};
 use crate::refusal::Refusal;
 
 // Whole nanoohms.
-#[derive(Clone, Copy)]
+#[derive(Clone, Copy, Debug, PartialEq, Eq, PartialOrd, Ord)]
 pub struct Nanoohm(pub u64);
 
 // Whole units of 10^-9.
-#[derive(Clone, Copy)]
+#[derive(Clone, Copy, Debug, PartialEq, Eq, PartialOrd, Ord)]
 pub struct Ratio(pub u64);
-
-#[derive(Clone, Copy)]
-pub enum RatioAnswer {
-    Ratio(Ratio),
-    Refused(Refusal),
-}
 
 const LARGEST: u64 = 10_000_000_000_000;
 
@@ -26,12 +20,6 @@ const LEAST_DIVISOR: u64 = 100_000_000;
 
 // 4.4
 pub const LARGEST_RATIO: u64 = 4_400_000_000;
-
-fn within(x: u64, least: u64, most: u64) -> bool
-    ensures { result ≡ (leb least x && leb x most) }
-{
-    least <= x && x <= most
-}
 
 // A quotient, and what is left.
 #[derive(Clone, Copy)]
@@ -49,9 +37,7 @@ fn divide(n: u64, d: u64, turns: u64) -> Divided
 {
     let divisor = d << turns;
     let mut x = n;
-    let mut more = turns;
-    while 0 < more {
-        more -= 1;
+    for done in 0..turns {
         x = x << 1;
         if divisor <= x {
             x -= divisor - 1;
@@ -105,7 +91,7 @@ fn nearest_ratio(r: u64, r0: u64) -> u64
 pub fn are_within(r: Nanoohm, r0: Nanoohm) -> bool
     ensures { result ≡ (is_reading r.0 && is_divisor r0.0) }
 {
-    within(r.0, 1, LARGEST) & within(r0.0, LEAST_DIVISOR, LARGEST)
+    (1..=LARGEST).contains(&r.0) & (LEAST_DIVISOR..=LARGEST).contains(&r0.0)
 }
 
 // The ratio of two resistances within their limits, also one above 4.4.
@@ -117,15 +103,15 @@ pub fn ratio_within(r: Nanoohm, r0: Nanoohm) -> Ratio
 }
 
 // The ratio of two resistances.
-pub fn ratio_of(r: Nanoohm, r0: Nanoohm) -> RatioAnswer
+pub fn ratio_of(r: Nanoohm, r0: Nanoohm) -> Result<Ratio, Refusal>
     ensures { Follows (ratio_rule r.0 r0.0) (stated result) }
 {
     if !are_within(r, r0) {
-        return RatioAnswer::Refused(Refusal::ResistanceOutside);
+        return Err(Refusal::ResistanceOutside);
     }
     let w = ratio_within(r, r0);
     if LARGEST_RATIO < w.0 {
-        return RatioAnswer::Refused(Refusal::RatioAbove);
+        return Err(Refusal::RatioAbove);
     }
-    RatioAnswer::Ratio(w)
+    Ok(w)
 }

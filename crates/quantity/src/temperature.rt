@@ -3,11 +3,11 @@ ghost use Rattle.std.specs.Prelude.{◌≡◌, pos, ◌≤ℤ◌};
 ghost use Rattle.quantity.specs.Quantities.{kelvin_of};
 
 // Steps from 0 °C.
-#[derive(Clone, Copy)]
+#[derive(Clone, Copy, Debug, PartialEq, Eq, PartialOrd, Ord)]
 pub struct Celsius(pub i64);
 
 // Steps from absolute zero.
-#[derive(Clone, Copy)]
+#[derive(Clone, Copy, Debug, PartialEq, Eq, PartialOrd, Ord)]
 pub struct Kelvin(pub u64);
 
 // 0 °C in kelvin steps.
@@ -19,11 +19,10 @@ impl Celsius {
         requires { pos 0 ≤ℤ kelvin_of self.0 }
         ensures { pos result.0 ≡ kelvin_of self.0 }
     {
-        let t = self.0;
-        let size = whole::magnitude(t);
-        if whole::at_most(0, t) {
-            return Kelvin(ICE + size);
+        let size = self.0.unsigned_abs();
+        if self.0 < 0 {
+            return Kelvin(ICE - size);
         }
-        Kelvin(ICE - size)
+        Kelvin(ICE + size)
     }
 }

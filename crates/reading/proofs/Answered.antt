@@ -2,7 +2,8 @@
 use mathlib.Core.Path.{◌≡◌, refl, sym, ◌∙◌, ap, subst}
 use mathlib.Core.Bool.{true}
 use mathlib.Core.List.{◌++◌}
-use mathlib.Core.Option.{Option, none, some, get_or}
+use Rattle.std.specs.Prelude.{Option, None, Some}
+use Rattle.std.specs.Option.{unwrap_or}
 use Prim.Native.Nat.{ℕ}
 use native.Mathlib.Omega.{arith}
 use lib.IntN.{ℤ}
@@ -31,7 +32,7 @@ use Rattle.reading.proofs.Ends.{sound-keeps}
 pub record Answered (law : Law) (k : Places) (r r0 : ℕ) (o : Outcome LawAndStep) : Type 0 where
   pub keeps : Keeps law k
   pub passed : Passed r r0
-  pub by_law : o.answer.law ≡ some law
+  pub by_law : o.answer.law ≡ Some law
   pub step_of : (range_of law).StepOf (value_of law k (ratio_of r r0)) o.answer.step
 
 by_certificate : (k : Certificate) (r r0 : ℕ) (o : Outcome LawAndStep) → o.code ≡ 0 → Follows (read_certificate k r r0) o → Answered k.law k.places r r0 o
@@ -49,22 +50,22 @@ by_certificate k r r0 o z h =
 
 pub record Asked (k : Given) (r r0 : ℕ) (o : Outcome LawAndStep) : Type 0 where
   pub law : Law
-  pub named : law_named k.law.0 ≡ some law
+  pub named : law_named k.law.0 ≡ Some law
   pub answered : Answered law k.places r r0 o
 
 pub asked : (k : Given) (r r0 : ℕ) (o : Outcome LawAndStep) → o.code ≡ 0 → Follows (read_given k r r0) o → Asked k r r0 o
 asked k r r0 o z = by (law_named k.law.0) refl
   where
     by : (named : Option Law) → law_named k.law.0 ≡ named → Follows (if_named no_step named (λ law. read_certificate (certificate_of law k) r r0)) o → Asked k r r0 o
-    by none e h = absurd (let c : ◌≡◌ {A = ℕ} 3 0 = sym (ap (λ (o : Outcome LawAndStep). o.code) h) ∙ z in omega arith)
-    by (some law) e h = record { law = law; named = e; answered = by_certificate (certificate_of law k) r r0 o z h }
+    by None e h = absurd (let c : ◌≡◌ {A = ℕ} 3 0 = sym (ap (λ (o : Outcome LawAndStep). o.code) h) ∙ z in omega arith)
+    by (Some law) e h = record { law = law; named = e; answered = by_certificate (certificate_of law k) r r0 o z h }
 
 -- one name names one law
-pub same-law : (l l' : Law) → some l ≡ some l' → l ≡ l'
-same-law l l' e = ap (λ (o : Option Law). get_or o Curve) e
+pub same-law : (l l' : Law) → Some l ≡ Some l' → l ≡ l'
+same-law l l' e = ap (λ (o : Option Law). unwrap_or o Curve) e
 
 -- so it is answered by a law that the name is known to name
-pub answered_by : (k : Given) (r r0 : ℕ) (o : Outcome LawAndStep) (law : Law) → law_named k.law.0 ≡ some law → o.code ≡ 0 → Follows (read_given k r r0) o → Answered law k.places r r0 o
+pub answered_by : (k : Given) (r r0 : ℕ) (o : Outcome LawAndStep) (law : Law) → law_named k.law.0 ≡ Some law → o.code ≡ 0 → Follows (read_given k r r0) o → Answered law k.places r r0 o
 answered_by k r r0 o law e z h =
     let a = asked k r r0 o z h in
     subst (λ (l : Law). Answered l k.places r r0 o) (same-law a.law law (sym a.named ∙ e)) a.answered
@@ -87,6 +88,6 @@ went_by k step o z h =
     let both = both_pass (sound_tests k) (step_tests (range_of k.law).bottom (range_of k.law).top step) refl a.0 in
     record { sound_certificate = sound_passed k both.0; keeps = sound-keeps k.law k.places (sound_passed k both.0); inside = both.1; ratio-of = a.1.1 }
 
-pub went : (k : Given) (step : ℤ) (o : Outcome LawAndRatio) (law : Law) → law_named k.law.0 ≡ some law → o.code ≡ 0 → Follows (forward_given k step) o → Went law k.places step o
+pub went : (k : Given) (step : ℤ) (o : Outcome LawAndRatio) (law : Law) → law_named k.law.0 ≡ Some law → o.code ≡ 0 → Follows (forward_given k step) o → Went law k.places step o
 went k step o law e z h =
     went_by (certificate_of law k) step o z (subst (λ (named : Option Law). Follows (if_named no_ratio named (λ law. forward_certificate (certificate_of law k) step)) o) e h)

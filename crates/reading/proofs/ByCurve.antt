@@ -1,6 +1,6 @@
 -- By the curve, a reading is the curve's own.
 use mathlib.Core.Path.{subst}
-use mathlib.Core.Option.{Option}
+use Rattle.std.specs.Prelude.{Option}
 use Rattle.quantity.specs.Outcomes.{Follows, if_named}
 use Rattle.law.specs.declared.laws.Law.{Law}
 use Rattle.law.specs.declared.laws.Law.TheVariants.{Curve}

@@ -2,7 +2,7 @@
 use mathlib.Core.Path.{◌≡◌, refl, sym, subst}
 use mathlib.Core.Bool.{true, ◌&&◌}
 use mathlib.Core.List.{[], ◌∷◌, ◌++◌}
-use mathlib.Core.Option.{Option, some}
+use Rattle.std.specs.Prelude.{Option, Some}
 use Prim.Native.Nat.{ℕ, zero, suc, ◌+◌, ◌<◌, ◌≤◌}
 use native.Mathlib.Decide.{dec_lt}
 use native.Mathlib.Omega.{arith}
@@ -76,7 +76,7 @@ module _ (s : Subrange) (k : Places) (e : Limited (carried s).form k) (step : �
       )
 
   -- so the ratio reads the step
-  reads-ratio : (w : ℕ) → pos 0 ≤ℤ step → step ≤ℤ (carried s).top → Least (carried s).form k step w → Follows (read_ratio (Scale s) k w) (answered (record { law = some (Scale s); step = step }))
+  reads-ratio : (w : ℕ) → pos 0 ≤ℤ step → step ≤ℤ (carried s).top → Least (carried s).form k step w → Follows (read_ratio (Scale s) k w) (answered (record { law = Some (Scale s); step = step }))
   reads-ratio w p q l = between (Scale s) k w step p q l.enough (bracket w p (omega (ints, q, (tops s).1)) l)
 
 pub has-ratio : HasRatio
@@ -112,7 +112,7 @@ reads_back k r r0 step s f o named h z d e g =
     let from : pos 0 ≤ℤ step = rw (range-bottom s, bottom_is s) at within.0 in
     let to : step ≤ℤ (carried s).top = rw (range-top s) at within.1 in
     let l : Least (carried s).form k.places step (ratio_of r r0) = rw e w.ratio-of in
-    let t : Outcome LawAndStep = answered (record { law = some (Scale s); step = step }) in
+    let t : Outcome LawAndStep = answered (record { law = Some (Scale s); step = step }) in
     let read : Follows (read_certificate (certificate_of (Scale s) k) r r0) t = reads-resistances (certificate_of (Scale s) k) r r0 w.sound_certificate d l.within t (reads-ratio s k.places w.keeps step (ratio_of r r0) from to l) in
     read_unique largest_resistance k r r0 o t g (subst (λ (n : Option Law). Follows (if_named no_step n (λ law. read_certificate (certificate_of law k) r r0)) t) (sym named) read)
 

@@ -2,7 +2,7 @@
 use mathlib.Core.Path.{◌≡◌, refl, sym, subst}
 use mathlib.Core.Bool.{Bool, true, ◌&&◌, not}
 use mathlib.Core.List.{[]}
-use mathlib.Core.Option.{some}
+use Rattle.std.specs.Prelude.{Some}
 use Prim.Native.Nat.{ℕ}
 use borrow.Author.Tests.{eqb-true, not-true}
 use lib.Dec.{eqb}
@@ -55,11 +55,11 @@ rise (Scale s) t p q = reference.one_up t p (omega (ints, q, (tops s).1, add_par
 
 -- a ratio whose value lies between that at a step and that at the next reads the step
 module _ (law : Law) (k : Places) (w : ℕ) (t : ℤ) where
-  pub between : bottom law ≤ℤ t → t ≤ℤ top law → value_at law t ≤ℤ value_of law k w → value_of law k w <ℤ value_at law (t +ℤ pos 1) → Follows (read_ratio law k w) (answered (record { law = some law; step = t }))
+  pub between : bottom law ≤ℤ t → t ≤ℤ top law → value_at law t ≤ℤ value_of law k w → value_of law k w <ℤ value_at law (t +ℤ pos 1) → Follows (read_ratio law k w) (answered (record { law = Some law; step = t }))
   between p q n a =
       let past = add_parts (top law) (pos 1) in
       let next = add_parts t (pos 1) in
-      subst (λ (range : Range). Follows (read_by [] law range (value_of law k w)) (answered (record { law = some law; step = t }))) (sym (ranges law))
+      subst (λ (range : Range). Follows (read_by [] law range (value_of law k w)) (answered (record { law = Some law; step = t }))) (sym (ranges law))
       (reads-step law (value_at law) (bottom law) (top law) (value_of law k w) t
       (omega (ints, n, not_falling (value_at law) (bottom law) (top law +ℤ pos 1) (rise law) (bottom law) t (omega ints) p (omega (ints, q, past))))
       (omega (ints, a, not_falling (value_at law) (bottom law) (top law +ℤ pos 1) (rise law) (t +ℤ pos 1) (top law +ℤ pos 1) (omega (ints, p, next)) (omega (ints, q, past, next)) (omega ints)))
@@ -70,7 +70,7 @@ abbrev pub step_test : Law → Places → ℕ → ℤ → Bool
 step_test law k w t =
     (le_z (bottom law) t && le_z t (top law)) && (le_z (value_at law t) (value_of law k w) && lt_z (value_of law k w) (value_at law (t +ℤ pos 1)))
 
-pub step-passes : (law : Law) (k : Places) (w : ℕ) (t : ℤ) → step_test law k w t ≡ true → Follows (read_ratio law k w) (answered (record { law = some law; step = t }))
+pub step-passes : (law : Law) (k : Places) (w : ℕ) (t : ℤ) → step_test law k w t ≡ true → Follows (read_ratio law k w) (answered (record { law = Some law; step = t }))
 step-passes law k w t e =
     let both = and_true (le_z (bottom law) t && le_z t (top law)) (le_z (value_at law t) (value_of law k w) && lt_z (value_of law k w) (value_at law (t +ℤ pos 1))) e in
     let range = and_true (le_z (bottom law) t) (le_z t (top law)) both.0 in

@@ -1,6 +1,6 @@
 -- Each promise of readings allows one outcome only.
 use mathlib.Core.Path.{◌≡◌, sym, ◌∙◌, ap₂}
-use mathlib.Core.Option.{Option, none, some}
+use Rattle.std.specs.Prelude.{Option, None, Some, Result}
 use Prim.Native.Nat.{ℕ, ◌<◌}
 use native.Mathlib.Decide.{dec_lt}
 use native.Mathlib.Omega.{arith}
@@ -12,8 +12,9 @@ use Rattle.quantity.proofs.Outcomes.{one-outcome, one-named}
 use Rattle.law.specs.declared.subrange.Subrange.{Subrange}
 use Rattle.law.specs.declared.laws.Law.{Law}
 use Rattle.law.specs.declared.laws.Law.TheVariants.{Curve, Scale}
-use Rattle.law.specs.declared.answer.ReadingAnswer.{ReadingAnswer}
-use Rattle.law.specs.declared.answer.ForwardAnswer.{ForwardAnswer}
+use Rattle.quantity.specs.declared.refusal.Refusal.{Refusal}
+use Rattle.law.specs.declared.answer.Reading.{Reading}
+use Rattle.law.specs.declared.answer.ForwardRatio.{ForwardRatio}
 use Rattle.law.specs.Subranges.{carried, law_named}
 use Rattle.law.specs.Answers.{LawAndStep, no_step, stated, LawAndRatio, no_ratio, stated_forward}
 use Rattle.law.proofs.Answers.{OneStep, largest_is_one, same_reading, stated_unique, forward_unique}
@@ -42,16 +43,16 @@ pub given_same_step : (k : Given) (r r0 : ℕ) (a b : LawAndStep) → (read_give
 given_same_step k r r0 a b = by (law_named k.law.0)
   where
     by : (named : Option Law) → (if_named no_step named (λ law. read_certificate (certificate_of law k) r r0)).Answer a → (if_named no_step named (λ law. read_certificate (certificate_of law k) r r0)).Answer b → a ≡ b
-    by none p q = absurd p
-    by (some law) p q = same_step (certificate_of law k) r r0 a b p q
+    by None p q = absurd p
+    by (Some law) p q = same_step (certificate_of law k) r r0 a b p q
 
 pub read_unique : (largest : ℕ) (k : Given) (r r0 : ℕ) (o o' : Outcome LawAndStep) → Follows (read_given_up_to largest k r r0) o → Follows (read_given_up_to largest k r r0) o' → o ≡ o'
 read_unique largest k r r0 = one-named no_step (law_named k.law.0) (λ law. read_certificate_up_to largest (certificate_of law k) r r0) (λ law. same_step (certificate_of law k) r r0)
 
-pub one_reading : (k : Given) (r r0 : ℕ) (x y : ReadingAnswer) → Follows (read_given k r r0) (stated x) → Follows (read_given k r r0) (stated y) → x ≡ y
+pub one_reading : (k : Given) (r r0 : ℕ) (x y : Result Reading Refusal) → Follows (read_given k r r0) (stated x) → Follows (read_given k r r0) (stated y) → x ≡ y
 one_reading k r r0 x y h i = stated_unique x y (read_unique largest_resistance k r r0 (stated x) (stated y) h i)
 
-pub one_reading_by : (k : Certificate) (r r0 : ℕ) (x y : ReadingAnswer) → Follows (read_certificate k r r0) (stated x) → Follows (read_certificate k r r0) (stated y) → x ≡ y
+pub one_reading_by : (k : Certificate) (r r0 : ℕ) (x y : Result Reading Refusal) → Follows (read_certificate k r r0) (stated x) → Follows (read_certificate k r r0) (stated y) → x ≡ y
 one_reading_by k r r0 x y h i = stated_unique x y (one-outcome (read_certificate k r r0) (same_step k r r0) (stated x) (stated y) h i)
 
 -- ---- forward
@@ -75,9 +76,9 @@ pub ratio_unique : (k : Given) (step : ℤ) (o o' : Outcome LawAndRatio) → Fol
 ratio_unique k step =
     one-named no_ratio (law_named k.law.0) (λ law. forward_certificate (certificate_of law k) step) (λ law. same_forward (certificate_of law k) step)
 
-pub one_forward : (k : Given) (step : ℤ) (x y : ForwardAnswer) → Follows (forward_given k step) (stated_forward x) → Follows (forward_given k step) (stated_forward y) → x ≡ y
+pub one_forward : (k : Given) (step : ℤ) (x y : Result ForwardRatio Refusal) → Follows (forward_given k step) (stated_forward x) → Follows (forward_given k step) (stated_forward y) → x ≡ y
 one_forward k step x y h i = forward_unique x y (ratio_unique k step (stated_forward x) (stated_forward y) h i)
 
-pub one_forward_by : (k : Certificate) (step : ℤ) (x y : ForwardAnswer) → Follows (forward_certificate k step) (stated_forward x) → Follows (forward_certificate k step) (stated_forward y) → x ≡ y
+pub one_forward_by : (k : Certificate) (step : ℤ) (x y : Result ForwardRatio Refusal) → Follows (forward_certificate k step) (stated_forward x) → Follows (forward_certificate k step) (stated_forward y) → x ≡ y
 one_forward_by k step x y h i =
     forward_unique x y (one-outcome (forward_certificate k step) (same_forward k step) (stated_forward x) (stated_forward y) h i)

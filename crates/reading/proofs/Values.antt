@@ -1,7 +1,7 @@
 -- What request 7 moved, in readings that the checker computes: each before, now, and one nanoohm less. The ratio was rounded down before, so what was read then is
 -- what that ratio over 1 Ω reads.
 use mathlib.Core.Path.{refl}
-use mathlib.Core.Option.{some}
+use Rattle.std.specs.Prelude.{Some}
 use Prim.Native.Nat.{ℕ}
 use lib.IntN.{ℤ, pos, neg_ℤ}
 use Rattle.exact.specs.Polynomial.{rounded}
@@ -28,7 +28,7 @@ abbrev pub given : ℕ → ℕ → Given
 given law wal = record { law = record { 0 = law }; places = zeros wal }
 
 abbrev pub at : Law → ℤ → Outcome LawAndStep
-at law t = answered (record { law = some law; step = t })
+at law t = answered (record { law = Some law; step = t })
 
 -- ---- R/R0 = 0.999 960 109 5 by ga: 8 before, now 0 °C
 was_below : Follows (read_given (given (spelled "ga") 0) 999_960_109 1_000_000_000) (refused no_step 8)

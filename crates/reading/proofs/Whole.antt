@@ -2,7 +2,7 @@
 use mathlib.Core.Path.{◌≡◌, refl, sym}
 use mathlib.Core.Bool.{Bool, true, false, ◌&&◌, not}
 use mathlib.Core.List.{[], ◌∷◌, ◌++◌}
-use mathlib.Core.Option.{Option, none, some}
+use Rattle.std.specs.Prelude.{Option, None, Some}
 use Prim.Native.Nat.{ℕ}
 use lib.Dec.{eqb, ltb}
 use lib.IntN.{ℤ}
@@ -29,11 +29,11 @@ use Rattle.reading.specs.Promised.{ReadAsGiven, ForwardAsGiven, Yielded, Yielded
 
 pub read_as_given : ReadAsGiven
 read_as_given k r r0 o h =
-    by_name no_step (λ law. read_certificate (certificate_of law (given_of k)) r r0) (some k.law) (law_named (law_name k.law)) (sym (names_law k.law)) o h
+    by_name no_step (λ law. read_certificate (certificate_of law (given_of k)) r r0) (Some k.law) (law_named (law_name k.law)) (sym (names_law k.law)) o h
 
 pub forward_as_given : ForwardAsGiven
 forward_as_given k step o h =
-    by_name no_ratio (λ law. forward_certificate (certificate_of law (given_of k)) step) (some k.law) (law_named (law_name k.law)) (sym (names_law k.law)) o h
+    by_name no_ratio (λ law. forward_certificate (certificate_of law (given_of k)) step) (Some k.law) (law_named (law_name k.law)) (sym (names_law k.law)) o h
 
 -- ---- never 3 or 7
 -- the numbers that are left once 7 is passed
@@ -49,8 +49,8 @@ pub accepted_reads : (k : Given) → number_given (given_rule k).tests ≡ 0 →
 accepted_reads k e r r0 o h = by (law_named k.law.0) e h
   where
     by : (named : Option Law) → number_given (if_named no_places named (λ law. given_by law k)).tests ≡ 0 → Follows (if_named no_step named (λ law. read_certificate (certificate_of law k) r r0)) o → (eqb o.code 3 ≡ false) × (eqb o.code 7 ≡ false)
-    by none e h = absurd (omega (arith, e))
-    by (some law) e h =
+    by None e h = absurd (omega (arith, e))
+    by (Some law) e h =
         let c = certificate_of law k in
         let range = range_of law in
         let value = value_of law k.places (ratio_of r r0) in
@@ -61,8 +61,8 @@ accepted_forward : (k : Given) → number_given (given_rule k).tests ≡ 0 → (
 accepted_forward k e step o h = by (law_named k.law.0) e h
   where
     by : (named : Option Law) → number_given (if_named no_places named (λ law. given_by law k)).tests ≡ 0 → Follows (if_named no_ratio named (λ law. forward_certificate (certificate_of law k) step)) o → (eqb o.code 3 ≡ false) × (eqb o.code 7 ≡ false)
-    by none e h = absurd (omega (arith, e))
-    by (some law) e h =
+    by None e h = absurd (omega (arith, e))
+    by (Some law) e h =
         let c = certificate_of law k in
         let range = range_of law in
         let number : o.code ≡ number_given (step_tests range.bottom range.top step) = rw (sound_passed c e) at (code-is-given (forward_certificate c step) o h) in

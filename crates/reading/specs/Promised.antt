@@ -1,7 +1,6 @@
 -- What is promised of readings besides their answers. `read_given` is the rule that the call `read` follows, and `forward_given` that of `forward`, so these are
 -- statements about every answer of those calls.
-use Rattle.std.specs.Prelude.{◌≡◌, true, false, ◌&&◌, ℕ, ◌≤◌, eqb, ℤ, pos, ◌+ℤ◌, ◌≤ℤ◌}
-use Rattle.std.proofs.Math.Option.{some}
+use Rattle.std.specs.Prelude.{◌≡◌, true, false, ◌&&◌, ℕ, ◌≤◌, eqb, ℤ, pos, ◌+ℤ◌, ◌≤ℤ◌, Some}
 use Rattle.exact.specs.Fraction.{integer, ◌+ᶠ◌, ◌≤ᶠ◌}
 use Rattle.quantity.specs.Quantities.{is_reading, is_divisor, one, ratio_of}
 use Rattle.quantity.specs.Outcomes.{Outcome, answered, Follows}
@@ -33,13 +32,13 @@ LawAsked = (k : Given) (r r0 : ℕ) (o : Outcome LawAndStep) → Follows (read_g
 -- A reading by the curve and a sound certificate, which has zeros alone, is the curve's own; so all that is said of those is so of it.
 abbrev pub CurveAsItself : Type 0
 CurveAsItself =
-    (k : Given) (r r0 : ℕ) (o : Outcome LawAndStep) → law_named k.law.0 ≡ some Curve → sound (certificate_of Curve k) ≡ true
+    (k : Given) (r r0 : ℕ) (o : Outcome LawAndStep) → law_named k.law.0 ≡ Some Curve → sound (certificate_of Curve k) ≡ true
     → Follows (read_given k r r0) o → Follows (read_resistances r r0) o
 
 -- R/R0 is bracketed by the step of every answer by the curve and the next.
 abbrev pub CurveBracketed : Type 0
 CurveBracketed =
-    (k : Given) (r r0 : ℕ) (o : Outcome LawAndStep) → law_named k.law.0 ≡ some Curve → Follows (read_given k r r0) o → o.code ≡ 0
+    (k : Given) (r r0 : ℕ) (o : Outcome LawAndStep) → law_named k.law.0 ≡ Some Curve → Follows (read_given k r r0) o → o.code ≡ 0
     → Bracketed r r0 o.answer.step
 
 -- ---- demand 3
@@ -56,7 +55,7 @@ pub record Close (form : Form) (k : Places) (w : ℕ) (step : ℤ) : Type 0 wher
 -- First half: so it is with every answer by the scale.
 abbrev pub AnswersClose : Type 0
 AnswersClose =
-    (k : Given) (r r0 : ℕ) (o : Outcome LawAndStep) (s : Subrange) → law_named k.law.0 ≡ some (Scale s)
+    (k : Given) (r r0 : ℕ) (o : Outcome LawAndStep) (s : Subrange) → law_named k.law.0 ≡ Some (Scale s)
     → Follows (read_given k r r0) o → o.code ≡ 0 → Close (carried s).form k.places (ratio_of r r0) o.answer.step
 
 -- Second half: on one certificate (an unsound one is refused) and one R0, of two answered readings the larger resistance never gives the lower temperature.
@@ -105,13 +104,13 @@ HasRatio =
 -- Reading the ratio of a step gives the step back: two resistances of that ratio are answered by that step.
 abbrev pub ReadsBack : Type 0
 ReadsBack =
-    (k : Given) (r r0 : ℕ) (step : ℤ) (s : Subrange) (f : Outcome LawAndRatio) (o : Outcome LawAndStep) → law_named k.law.0 ≡ some (Scale s)
+    (k : Given) (r r0 : ℕ) (step : ℤ) (s : Subrange) (f : Outcome LawAndRatio) (o : Outcome LawAndStep) → law_named k.law.0 ≡ Some (Scale s)
     → Follows (forward_given k step) f → f.code ≡ 0 → (is_reading r && is_divisor r0) ≡ true → ratio_of r r0 ≡ f.answer.ratio
-    → Follows (read_given k r r0) o → o ≡ answered (record { law = some (Scale s); step = step })
+    → Follows (read_given k r r0) o → o ≡ answered (record { law = Some (Scale s); step = step })
 
 -- So are two of which R was set by it, where R0 is 1 Ω or more.
 abbrev pub SetReadsBack : Type 0
 SetReadsBack =
-    (k : Given) (r r0 : ℕ) (step : ℤ) (s : Subrange) (f : Outcome LawAndRatio) (o : Outcome LawAndStep) → law_named k.law.0 ≡ some (Scale s)
+    (k : Given) (r r0 : ℕ) (step : ℤ) (s : Subrange) (f : Outcome LawAndRatio) (o : Outcome LawAndStep) → law_named k.law.0 ≡ Some (Scale s)
     → Follows (forward_given k step) f → f.code ≡ 0 → (is_reading r && is_divisor r0) ≡ true → one ≤ r0 → SetTo r r0 f.answer.ratio
-    → Follows (read_given k r r0) o → o ≡ answered (record { law = some (Scale s); step = step })
+    → Follows (read_given k r r0) o → o ≡ answered (record { law = Some (Scale s); step = step })

@@ -11,32 +11,26 @@ ghost use Rattle.reading.specs.Reading.{read_ratio, read_certificate, read_given
 
 use certificate::{Certificate, Given};
 use deviation::Places;
-use law::{Law, NamedLaw, Reading, ReadingAnswer, Subrange};
-use quantity::{Nanoohm, Ratio, RatioAnswer, Refusal};
-use reference::Inverse;
+use law::{Law, Reading, Subrange};
+use quantity::{Nanoohm, Ratio, Refusal};
 
 // A step found on the whole scale is one of the subrange where it is not past its top.
-fn by_scale(subrange: Subrange, k: Places, w: Ratio) -> ReadingAnswer
+fn by_scale(subrange: Subrange, k: Places, w: Ratio) -> Result<Reading, Refusal>
     requires { Limited (carried subrange).form k × (w.0 ≤ largest_ratio) }
     ensures { Follows (read_ratio (Law.Scale subrange) k w.0) (stated result) }
 {
-    match reference::invert(deviation::wr(subrange.form(), k, w)) {
-        Inverse::Below => ReadingAnswer::Refused(Refusal::BelowRange),
-        Inverse::Past => ReadingAnswer::Refused(Refusal::AboveRange),
-        Inverse::At(step) => {
-            let top = subrange.top();
-            if whole::less(top.0, step.0) {
-                return ReadingAnswer::Refused(Refusal::AboveRange);
-            }
-            ReadingAnswer::Read(Reading {
-                law: Law::Scale(subrange),
-                step,
-            })
-        }
+    let step = reference::invert(deviation::wr(subrange.form(), k, w))?;
+    let top = subrange.top();
+    if top.0 < step.0 {
+        return Err(Refusal::AboveRange);
     }
+    Ok(Reading {
+        law: Law::Scale(subrange),
+        step,
+    })
 }
 
-fn read_ratio(law: Law, k: Places, w: Ratio) -> ReadingAnswer
+fn read_ratio(law: Law, k: Places, w: Ratio) -> Result<Reading, Refusal>
     requires { Keeps law k × (w.0 ≤ largest_ratio) }
     ensures { Follows (read_ratio law k w.0) (stated result) }
 {
@@ -47,29 +41,21 @@ fn read_ratio(law: Law, k: Places, w: Ratio) -> ReadingAnswer
 }
 
 // A reading by a certificate. R0 is the resistance at the water triple point by the scale, at 0 °C by the curve.
-pub fn read_by(k: Certificate, r: Nanoohm, r0: Nanoohm) -> ReadingAnswer
+pub fn read_by(k: Certificate, r: Nanoohm, r0: Nanoohm) -> Result<Reading, Refusal>
     ensures { Follows (read_certificate k r.0 r0.0) (stated result) }
 {
     if !k.is_sound() {
-        return ReadingAnswer::Refused(Refusal::BeyondLimit);
+        return Err(Refusal::BeyondLimit);
     }
-    let law = k.law;
-    let places = k.places;
-    match quantity::ratio_of(r, r0) {
-        RatioAnswer::Ratio(w) => read_ratio(law, places, w),
-        RatioAnswer::Refused(why) => ReadingAnswer::Refused(why),
-    }
+    let w = quantity::ratio_of(r, r0)?;
+    read_ratio(k.law, k.places, w)
 }
 
 // A reading by a certificate as it was given, its law named.
-pub fn read(k: Given, r: Nanoohm, r0: Nanoohm) -> ReadingAnswer
+pub fn read(k: Given, r: Nanoohm, r0: Nanoohm) -> Result<Reading, Refusal>
     ensures { Follows (read_given k r.0 r0.0) (stated result) }
 {
-    match Law::named(k.law) {
-        NamedLaw::Unknown => ReadingAnswer::Refused(Refusal::NameUnknown),
-        NamedLaw::Known(law) => {
-            let places = k.places;
-            read_by(Certificate { law, places }, r, r0)
-        }
-    }
+    let law = Law::named(k.law).ok_or(Refusal::NameUnknown)?;
+    let places = k.places;
+    read_by(Certificate { law, places }, r, r0)
 }

@@ -4,7 +4,7 @@
 mod from_resistance;
 mod from_step;
 
-pub use curve::{ToleranceAnswer, ToleranceResult, tolerance_test};
+pub use curve::{ToleranceResult, tolerance_test};
 pub use from_resistance::{read, read_by};
 pub use from_step::{forward, forward_by};
-pub use law::{ForwardAnswer, ForwardRatio, Reading, ReadingAnswer};
+pub use law::{ForwardRatio, Reading};

@@ -5,5 +5,5 @@ mod inverse;
 mod search;
 mod working;
 
-pub use inverse::{Inverse, invert};
+pub use inverse::{Outside, invert};
 pub use working::working_at;

@@ -1,5 +1,6 @@
 // The search between two bounds, which a table or a first guess can narrow.
-ghost use Rattle.std.specs.Prelude.{◌+◌, ◌<◌, ◌≤◌, ◌^◌, pos, ◌≤ℤ◌, ◌<ℤ◌};
+ghost use Rattle.std.specs.Prelude.{◌≡◌, ◌+◌, ◌<◌, ◌≤◌, ◌^◌, pos, ◌≤ℤ◌, ◌<ℤ◌};
+ghost use Rattle.std.specs.Int.Signed.{le_z};
 ghost use Rattle.whole.specs.Largest.{Largest};
 ghost use Rattle.reference.specs.Reference.{working, last};
 
@@ -13,17 +14,13 @@ pub fn search(value: i64, from: u64, to: u64, allowed: u64) -> u64
     requires from_bound { (working (pos from) ≤ℤ value) × (value <ℤ working (pos to)) }
     ensures { Largest working (pos 0) last value (pos result) }
 {
-    let mut low = from;
-    let mut high = to;
-    let mut left = allowed;
-    while 0 < left {
-        left -= 1;
-        let middle = (low + high) / 2;
-        if whole::at_most(working_at(Celsius(whole::signed(middle))), value) {
-            low = middle;
-        } else {
-            high = middle;
-        }
-    }
-    low
+    whole::last_passing(
+        from,
+        to,
+        allowed,
+        |step|
+            requires { step ≤ 9_617_801 }
+            ensures { result ≡ le_z (working (pos step)) value }
+        { working_at(Celsius(step as i64)) <= value },
+    )
 }

@@ -26,12 +26,10 @@ pub fn working_at(step: Celsius) -> i64
     requires { (pos 0 ≤ℤ step.0) × (step.0 ≤ℤ past_last) }
     ensures { result ≡ working step.0 }
 {
-    let n = whole::difference(step.0, whole::signed(MIDDLE));
+    let n = step.0 - MIDDLE as i64;
     let mut sum = C[9];
-    let mut i: usize = 9;
-    while 0 < i {
-        i -= 1;
-        sum = exact::turn(sum, n, MIDDLE, C[i]);
+    for c in C[..9].iter().rev() {
+        sum = exact::turn(sum, n, MIDDLE, *c);
     }
     sum
 }

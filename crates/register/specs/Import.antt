@@ -1,10 +1,10 @@
 -- An import: a list of entries comes into the table.
-use Rattle.std.specs.Prelude.{◌≡◌, Bool, ◌||◌, List, [], ◌∷◌, ℕ, eqb, ltb}
-use Rattle.whole.specs.Any.{any}
+use Rattle.std.specs.Prelude.{◌≡◌, Bool, ◌||◌, List, [], ◌∷◌, ℕ, eqb, ltb, Result, ⊤}
+use Rattle.std.specs.List.{list_any}
 use Rattle.whole.specs.Choice.{if◌then◌otherwise◌}
 use Rattle.entry.specs.declared.entry.Entry.{Entry}
 use Rattle.examination.specs.declared.testing.Noted.{Noted}
-use Rattle.examination.specs.declared.answering.Change.{Change}
+use Rattle.quantity.specs.declared.refusal.Refusal.{Refusal}
 use Rattle.entry.specs.Entry.{is_unknown, is_unsound, is_free, clash, joined}
 use Rattle.quantity.specs.Outcomes.{Test, number_given, Rule, Follows}
 use Rattle.examination.specs.Answering.{stated, import_tests}
@@ -19,7 +19,7 @@ unsound e = is_unsound e.certificate
 
 -- 17: a thermometer is 0 or twice in the list.
 abbrev pub unfit : List Entry → Bool
-unfit list = any is_free list || twice list
+unfit list = list_any is_free list || twice list
 
 -- 18: an entry has the serial that the table has for its thermometer, and another certificate.
 abbrev pub clashing : List Entry → Entry → Bool
@@ -35,15 +35,15 @@ short table list = ltb (places table) (count (is_new table) list)
 
 -- What the tests of a list find, the table having so many places left: a step of the code, which the promise of an import does not cite.
 pub record Tested (table list : List Entry) (left : ℕ) (found : Noted) : Type 0 where
-  pub of_unknown : found.unknown ≡ any unknown list
-  pub of_unsound : found.unsound ≡ any unsound list
+  pub of_unknown : found.unknown ≡ list_any unknown list
+  pub of_unsound : found.unsound ≡ list_any unsound list
   pub of_unfit : found.unfit ≡ unfit list
-  pub of_clashing : found.clashing ≡ any (clashing table) list
+  pub of_clashing : found.clashing ≡ list_any (clashing table) list
   pub of_short : found.short ≡ ltb left (count (is_new table) list)
 
 -- The tests in their order, each over the whole list before the next, and their number, 0 where the import is accepted.
 abbrev pub tests_of : List Entry → List Entry → List Test
-tests_of table list = import_tests (bad_table table) (any unknown list) (any unsound list) (unfit list) (any (clashing table) list) (short table list)
+tests_of table list = import_tests (bad_table table) (list_any unknown list) (list_any unsound list) (unfit list) (list_any (clashing table) list) (short table list)
 
 unfoldable pub import_refusal : List Entry → List Entry → ℕ
 import_refusal table list = number_given (tests_of table list)
@@ -68,5 +68,5 @@ abbrev pub import_rule : List Entry → List Entry → Rule (List Entry)
 import_rule table list = record { tests = tests_of table list; zeros = table; Answer = λ left. left ≡ placed_all table list }
 
 -- What is promised of an import: its answer, and the table that it leaves.
-abbrev pub ImportedAs : List Entry → List Entry → Change → List Entry → Type 0
+abbrev pub ImportedAs : List Entry → List Entry → Result ⊤ Refusal → List Entry → Type 0
 ImportedAs table list answer left = Follows (import_rule table list) (record { code = stated answer; answer = left })

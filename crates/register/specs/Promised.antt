@@ -1,21 +1,20 @@
 -- What is promised of the register besides its answers. The call `import` ensures `ImportedAs`, `withdraw` ensures `WithdrawnAs` and `read` ensures
 -- `ReadThrough`. By `ImportLeaves` and `WithdrawalLeaves`, what is said here of `import_refusal`, `imported`, `withdrawal_refusal` and `withdrawn` is said of every
 -- use of the first two.
-use Rattle.std.specs.Prelude.{◌≡◌, true, false, List, [], ◌∷◌, ℕ, ◌<◌, ◌≤◌, eqb, length, get_or, ◌≤ℤ◌}
-use Rattle.std.proofs.Math.Option.{some}
+use Rattle.std.specs.Prelude.{◌≡◌, true, false, List, [], ◌∷◌, ℕ, ◌<◌, ◌≤◌, eqb, length, get_or, ◌≤ℤ◌, Some, Result, ⊤}
 use Rattle.quantity.specs.Quantities.{ratio_of}
 use Rattle.quantity.specs.Outcomes.{Outcome, Follows}
 use Rattle.quantity.specs.Promised.{Widens}
 use Rattle.law.specs.declared.laws.Law.TheVariants.{Scale}
 use Rattle.law.specs.declared.subrange.Subrange.{Subrange}
 use Rattle.law.specs.Subranges.{carried, law_named}
-use Rattle.law.specs.declared.answer.ReadingAnswer.{ReadingAnswer}
+use Rattle.quantity.specs.declared.refusal.Refusal.{Refusal}
+use Rattle.law.specs.declared.answer.Reading.{Reading}
 use Rattle.law.specs.Answers.{LawAndStep, stated as read_as}
 use Rattle.reading.specs.Reading.{read_given}
 use Rattle.reading.specs.Promised.{Close}
 use Rattle.entry.specs.declared.entry.Entry.{Entry}
 use Rattle.entry.specs.declared.entry.Serial.{Serial}
-use Rattle.examination.specs.declared.answering.Change.{Change}
 use Rattle.entry.specs.Entry.{fault, is_free, is_live, free, joined, raised}
 use Rattle.examination.specs.Answering.{stated as changed}
 use Rattle.register.specs.Table.{entry_of, bad_table}
@@ -31,13 +30,13 @@ Names n = eqb n 0 ≡ false
 -- The number that an import gives is that of its tests, and the table that it leaves is `imported`.
 abbrev pub ImportLeaves : Type 0
 ImportLeaves =
-    (table list : List Entry) (answer : Change) (left : List Entry) → ImportedAs table list answer left
+    (table list : List Entry) (answer : Result ⊤ Refusal) (left : List Entry) → ImportedAs table list answer left
     → (changed answer ≡ import_refusal table list) × (left ≡ imported table list)
 
 -- Those of a withdrawal are that of its tests and `withdrawn`.
 abbrev pub WithdrawalLeaves : Type 0
 WithdrawalLeaves =
-    (table : List Entry) (n : ℕ) (serial : Serial) (answer : Change) (left : List Entry) → WithdrawnAs table n serial answer left
+    (table : List Entry) (n : ℕ) (serial : Serial) (answer : Result ⊤ Refusal) (left : List Entry) → WithdrawnAs table n serial answer left
     → (changed answer ≡ withdrawal_refusal table n) × (left ≡ withdrawn table n serial)
 
 -- ---- refusals
@@ -117,7 +116,7 @@ ThroughLaw =
 
 abbrev pub ThroughClose : Type 0
 ThroughClose =
-    (table : List Entry) (n r r0 : ℕ) (o : Outcome LawAndStep) (s : Subrange) → law_named (entry_of table n).certificate.law.0 ≡ some (Scale s)
+    (table : List Entry) (n r r0 : ℕ) (o : Outcome LawAndStep) (s : Subrange) → law_named (entry_of table n).certificate.law.0 ≡ Some (Scale s)
     → ReadThrough table n r r0 o → o.code ≡ 0
     → Close (carried s).form (entry_of table n).certificate.places (ratio_of r r0) o.answer.step
 
@@ -209,13 +208,13 @@ SerialNeverFalls = (table : List Entry) (acts : List Act) (n : ℕ) → Names n 
 -- Each call's promise allows one answer and one table only.
 abbrev pub OneImport : Type 0
 OneImport =
-    (table list : List Entry) (x y : Change) (left other : List Entry)
+    (table list : List Entry) (x y : Result ⊤ Refusal) (left other : List Entry)
     → ImportedAs table list x left → ImportedAs table list y other → (x ≡ y) × (left ≡ other)
 
 abbrev pub OneWithdrawal : Type 0
 OneWithdrawal =
-    (table : List Entry) (n : ℕ) (serial : Serial) (x y : Change) (left other : List Entry)
+    (table : List Entry) (n : ℕ) (serial : Serial) (x y : Result ⊤ Refusal) (left other : List Entry)
     → WithdrawnAs table n serial x left → WithdrawnAs table n serial y other → (x ≡ y) × (left ≡ other)
 
 abbrev pub OneReading : Type 0
-OneReading = (table : List Entry) (n r r0 : ℕ) (x y : ReadingAnswer) → ReadThrough table n r r0 (read_as x) → ReadThrough table n r r0 (read_as y) → x ≡ y
+OneReading = (table : List Entry) (n r r0 : ℕ) (x y : Result Reading Refusal) → ReadThrough table n r r0 (read_as x) → ReadThrough table n r r0 (read_as y) → x ≡ y

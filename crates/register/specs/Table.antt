@@ -1,6 +1,6 @@
 -- The register: a table of entries, one for each thermometer.
 use Rattle.std.specs.Prelude.{Bool, false, ◌&&◌, ◌||◌, not, List, [], ◌∷◌, ℕ, suc, eqb}
-use Rattle.whole.specs.Any.{any}
+use Rattle.std.specs.List.{list_any}
 use Rattle.whole.specs.Choice.{if◌then◌otherwise◌}
 use Rattle.entry.specs.declared.entry.Entry.{Entry}
 use Rattle.entry.specs.Entry.{is_bad, is_free, free}
@@ -32,11 +32,11 @@ count test (e ∷ es) = if test e then suc (count test es) otherwise count test 
 -- A thermometer is there twice.
 abbrev pub twice : List Entry → Bool
 twice [] = false
-twice (e ∷ es) = (not (is_free e) && any (has e.number.0) es) || twice es
+twice (e ∷ es) = (not (is_free e) && list_any (has e.number.0) es) || twice es
 
 -- 23: the table holds a thermometer twice or a bad certificate.
 unfoldable pub bad_table : List Entry → Bool
-bad_table table = twice table || any (λ (e : Entry). not (is_free e) && is_bad e.certificate) table
+bad_table table = twice table || list_any (λ (e : Entry). not (is_free e) && is_bad e.certificate) table
 
 -- The places left.
 abbrev pub places : List Entry → ℕ

@@ -1,9 +1,9 @@
 -- A withdrawal: the certificates of a thermometer are withdrawn up to a serial.
-use Rattle.std.specs.Prelude.{◌≡◌, List, ℕ, eqb}
+use Rattle.std.specs.Prelude.{◌≡◌, List, ℕ, eqb, Result, ⊤}
 use Rattle.whole.specs.Choice.{if◌then◌otherwise◌}
 use Rattle.entry.specs.declared.entry.Entry.{Entry}
 use Rattle.entry.specs.declared.entry.Serial.{Serial}
-use Rattle.examination.specs.declared.answering.Change.{Change}
+use Rattle.quantity.specs.declared.refusal.Refusal.{Refusal}
 use Rattle.entry.specs.Entry.{raised}
 use Rattle.quantity.specs.Outcomes.{number_given, Rule, Follows}
 use Rattle.examination.specs.Answering.{stated, withdrawal_tests}
@@ -27,5 +27,5 @@ withdrawal_rule table n serial =
     }
 
 -- What is promised of a withdrawal: its answer, and the table that it leaves.
-abbrev pub WithdrawnAs : List Entry → ℕ → Serial → Change → List Entry → Type 0
+abbrev pub WithdrawnAs : List Entry → ℕ → Serial → Result ⊤ Refusal → List Entry → Type 0
 WithdrawnAs table n serial answer left = Follows (withdrawal_rule table n serial) (record { code = stated answer; answer = left })

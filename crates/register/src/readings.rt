@@ -5,11 +5,16 @@ ghost use Rattle.register.specs.Reading.{ReadThrough};
 use crate::table::{examine, lookup};
 use entry::{Entry, Thermometer};
 use examination::reading_answer;
-use law::ReadingAnswer;
-use quantity::Nanoohm;
+use law::Reading;
+use quantity::{Nanoohm, Refusal};
 
 // By the thermometer's live certificate, its law and no other.
-pub fn read(table: &[Entry], number: Thermometer, r: Nanoohm, r0: Nanoohm) -> ReadingAnswer
+pub fn read(
+    table: &[Entry],
+    number: Thermometer,
+    r: Nanoohm,
+    r0: Nanoohm,
+) -> Result<Reading, Refusal>
     ensures { ReadThrough table.now number.0 r.0 r0.0 (stated result) }
 {
     let s = examine(table);

@@ -1,23 +1,22 @@
 // The places of a lent table, and its test.
 ghost use Rattle.std.specs.Prelude.{◌≡◌};
-ghost use Rattle.register.specs.Table.{first_at, entry_of, put as put_first, bad_table, places};
+ghost use Rattle.std.specs.List.{position};
+ghost use Rattle.register.specs.Table.{has, first_at, entry_of, put as put_first, bad_table, places};
 
-use entry::{Entry, free};
+use entry::Entry;
 use examination::{Seen, nothing_seen, see};
+
+fn place(entries: &[Entry], number: u64) -> Option<usize>
+    ensures { result ≡ position (has number) entries.now }
+{
+    entries.iter().position(|e| e.number.0 == number)
+}
 
 // The place of a number in a table or a list: the first that has it, or the length.
 pub fn find(entries: &[Entry], number: u64) -> usize
     ensures { result ≡ first_at entries.now number }
 {
-    let mut i = 0;
-    while i < entries.len() {
-        let e = entries[i];
-        if e.number.0 == number {
-            return i;
-        }
-        i += 1;
-    }
-    i
+    place(entries, number).unwrap_or(entries.len())
 }
 
 // What the table has of a number, or a free place.
@@ -28,7 +27,7 @@ pub fn lookup(table: &[Entry], number: u64) -> Entry
     if i < table.len() {
         return table[i];
     }
-    free()
+    Entry::free()
 }
 
 // The first place that has a number takes the entry. Where none has, nothing changes.
@@ -46,12 +45,9 @@ pub fn examine(table: &[Entry]) -> Seen
     ensures { (result.bad ≡ bad_table table.now) × (result.places ≡ places table.now) }
 {
     let mut s = nothing_seen();
-    let mut i = 0;
-    while i < table.len() {
-        let e = table[i];
+    for (i, e) in table.iter().enumerate() {
         let first = find(table, e.number.0);
-        s = see(s, e, i, first);
-        i += 1;
+        s = see(s, *e, i, first);
     }
     s
 }

@@ -2,18 +2,17 @@
 ghost use Rattle.register.specs.Withdrawal.{WithdrawnAs};
 
 use crate::table::{examine, lookup, put};
-use entry::{Entry, Serial, Thermometer, raised};
-use examination::{Change, accepted, withdrawal_answer};
+use entry::{Entry, Serial, Thermometer};
+use examination::withdrawal_answer;
+use quantity::Refusal;
 
 // The thermometer's mark rises to the serial and never falls. A refused withdrawal changes nothing.
-pub fn withdraw(table: &mut [Entry], number: Thermometer, serial: Serial) -> Change
+pub fn withdraw(table: &mut [Entry], number: Thermometer, serial: Serial) -> Result<(), Refusal>
     ensures { WithdrawnAs table.old number.0 serial result table.new }
 {
     let s = examine(table);
     let held = lookup(table, number.0);
-    let change = withdrawal_answer(s, held);
-    if accepted(change) {
-        put(table, number.0, raised(held, serial));
-    }
-    change
+    withdrawal_answer(s, held)?;
+    put(table, number.0, held.raised(serial));
+    Ok(())
 }

@@ -1,5 +1,4 @@
 -- What is proved of rows.
 pub mod Read
 pub mod Pairs
-pub mod Parsed
 pub mod Unique

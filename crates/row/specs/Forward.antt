@@ -1,11 +1,10 @@
 -- A list of steps to be taken forward: its columns, and what a row says.
-use Rattle.std.specs.Prelude.{List, [], ◌∷◌, ℕ}
+use Rattle.std.specs.Prelude.{List, [], ◌∷◌, ℕ, Result}
+use Rattle.text.specs.declared.columns.Fault.{Fault}
 use Rattle.text.specs.declared.columns.Holds.TheVariants.{Id, Name, Natural, Signed}
 use Rattle.text.specs.Columns.{Column, ◌holds◌, Value, values, integer_at, names_length}
 use Rattle.row.specs.declared.forward.ForwardRow.{ForwardRow}
-use Rattle.row.specs.declared.forward.ForwardParsed.{ForwardParsed}
-use Rattle.row.specs.declared.forward.ForwardParsed.TheVariants.{Row, NoRow}
-use Rattle.row.specs.Parsing.{Parsing, a_row, no_row, parsed_by}
+use Rattle.row.specs.Parsing.{parsed_by}
 use Rattle.row.specs.Places.{digits, given_at}
 
 abbrev pub columns : List Column
@@ -26,10 +25,5 @@ row_from names row = record { names = names; certificate = given_at 3 row; step 
 abbrev pub row_of : List ℕ → ForwardRow
 row_of line = row_from (names_length line) (values columns line)
 
--- What each case stands for.
-abbrev pub stated : ForwardParsed → Parsing ForwardRow
-stated (Row row) = a_row row
-stated (NoRow fault) = no_row fault
-
-abbrev pub parsed_as : List ℕ → Parsing ForwardRow
+abbrev pub parsed_as : List ℕ → Result ForwardRow Fault
 parsed_as = parsed_by columns row_of

@@ -1,11 +1,10 @@
 -- A list of readings: its columns, and what a row says.
-use Rattle.std.specs.Prelude.{List, [], ◌∷◌, ℕ}
+use Rattle.std.specs.Prelude.{List, [], ◌∷◌, ℕ, Result}
+use Rattle.text.specs.declared.columns.Fault.{Fault}
 use Rattle.text.specs.declared.columns.Holds.TheVariants.{Id, Name, Natural, Signed}
 use Rattle.text.specs.Columns.{Column, ◌holds◌, Value, values, count_at, names_length}
 use Rattle.row.specs.declared.readings.ReadingRow.{ReadingRow}
-use Rattle.row.specs.declared.readings.ReadingParsed.{ReadingParsed}
-use Rattle.row.specs.declared.readings.ReadingParsed.TheVariants.{Row, NoRow}
-use Rattle.row.specs.Parsing.{Parsing, a_row, no_row, parsed_by}
+use Rattle.row.specs.Parsing.{parsed_by}
 use Rattle.row.specs.Places.{digits, given_at}
 use Rattle.row.specs.Limits.{limits}
 
@@ -32,10 +31,5 @@ row_from names row = record { names = names; certificate = given_at 4 row; r = r
 abbrev pub row_of : List ℕ → ReadingRow
 row_of line = row_from (names_length line) (values columns line)
 
--- What each case stands for.
-abbrev pub stated : ReadingParsed → Parsing ReadingRow
-stated (Row row) = a_row row
-stated (NoRow fault) = no_row fault
-
-abbrev pub parsed_as : List ℕ → Parsing ReadingRow
+abbrev pub parsed_as : List ℕ → Result ReadingRow Fault
 parsed_as = parsed_by columns row_of

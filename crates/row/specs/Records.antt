@@ -1,12 +1,11 @@
 -- A list of records of cell ratios: its columns, and what a row says.
-use Rattle.std.specs.Prelude.{List, [], ◌∷◌, ℕ}
+use Rattle.std.specs.Prelude.{List, [], ◌∷◌, ℕ, Result}
+use Rattle.text.specs.declared.columns.Fault.{Fault}
 use Rattle.certificate.specs.declared.record.Record.{Record}
 use Rattle.text.specs.declared.columns.Holds.TheVariants.{Id, Name, Natural}
 use Rattle.text.specs.Columns.{Column, ◌holds◌, Value, values, name_at, count_at, names_length}
 use Rattle.row.specs.declared.records.RecordRow.{RecordRow}
-use Rattle.row.specs.declared.records.RecordParsed.{RecordParsed}
-use Rattle.row.specs.declared.records.RecordParsed.TheVariants.{Row, NoRow}
-use Rattle.row.specs.Parsing.{Parsing, a_row, no_row, parsed_by}
+use Rattle.row.specs.Parsing.{parsed_by}
 use Rattle.row.specs.Places.{digits}
 
 abbrev pub columns : List Column
@@ -40,10 +39,5 @@ row_from names row = record { names = names; cells = record_from row }
 abbrev pub row_of : List ℕ → RecordRow
 row_of line = row_from (names_length line) (values columns line)
 
--- What each case stands for.
-abbrev pub stated : RecordParsed → Parsing RecordRow
-stated (Row row) = a_row row
-stated (NoRow fault) = no_row fault
-
-abbrev pub parsed_as : List ℕ → Parsing RecordRow
+abbrev pub parsed_as : List ℕ → Result RecordRow Fault
 parsed_as = parsed_by columns row_of

@@ -1,16 +1,15 @@
 -- A list of records given as resistances: its columns, and what a row says.
-use Rattle.std.specs.Prelude.{List, [], ◌∷◌, ℕ}
+use Rattle.std.specs.Prelude.{List, [], ◌∷◌, ℕ, Result}
+use Rattle.text.specs.declared.columns.Fault.{Fault}
 use Rattle.certificate.specs.declared.resistances.Pair.{Pair}
 use Rattle.certificate.specs.declared.resistances.Resistances.{Resistances}
 use Rattle.text.specs.declared.columns.Holds.TheVariants.{Id, Name, Natural}
 use Rattle.text.specs.Columns.{Column, ◌holds◌, Value, values, name_at, count_at, names_length}
 use Rattle.text.specs.Numbers.{is_number, value_of}
 use Rattle.text.specs.Scanned.{scanned_at}
-use Rattle.row.specs.declared.resistances.PairAt.{PairAt}
+use Rattle.text.specs.declared.field.Scanned.{Scanned}
 use Rattle.row.specs.declared.resistances.ResistancesRow.{ResistancesRow}
-use Rattle.row.specs.declared.resistances.ResistancesParsed.{ResistancesParsed}
-use Rattle.row.specs.declared.resistances.ResistancesParsed.TheVariants.{Row, NoRow}
-use Rattle.row.specs.Parsing.{Parsing, a_row, no_row, parsed_by}
+use Rattle.row.specs.Parsing.{parsed_by}
 use Rattle.row.specs.Limits.{limits}
 
 -- Its resistances have at most so many digits.
@@ -42,11 +41,11 @@ abbrev pub pair_of : ℕ → ℕ → Pair
 pair_of r r0 = record { r = record { 0 = r }; r0 = record { 0 = r0 } }
 
 -- What an inner function answers: the pair in the two fields from an offset on, and where the next field starts.
-abbrev pub pair_at : List ℕ → ℕ → PairAt
+abbrev pub pair_at : List ℕ → ℕ → Scanned Pair
 pair_at line from =
     let r = scanned_at (is_number limits.digits) value_of line from in
     let r0 = scanned_at (is_number limits.digits) value_of line r.next in
-    record { pair = pair_of r.value r0.value; next = r0.next }
+    record { value = pair_of r.value r0.value; next = r0.next }
 
 abbrev pub resistances_from : List Value → Resistances
 resistances_from row = record {
@@ -66,10 +65,5 @@ row_from names row = record { names = names; cells = resistances_from row }
 abbrev pub row_of : List ℕ → ResistancesRow
 row_of line = row_from (names_length line) (values columns line)
 
--- What each case stands for.
-abbrev pub stated : ResistancesParsed → Parsing ResistancesRow
-stated (Row row) = a_row row
-stated (NoRow fault) = no_row fault
-
-abbrev pub parsed_as : List ℕ → Parsing ResistancesRow
+abbrev pub parsed_as : List ℕ → Result ResistancesRow Fault
 parsed_as = parsed_by columns row_of

@@ -1,11 +1,10 @@
 -- A list of tolerance tests: its columns, and what a row says.
-use Rattle.std.specs.Prelude.{List, [], ◌∷◌, ℕ}
+use Rattle.std.specs.Prelude.{List, [], ◌∷◌, ℕ, Result}
+use Rattle.text.specs.declared.columns.Fault.{Fault}
 use Rattle.text.specs.declared.columns.Holds.TheVariants.{Id, Letter, Natural, Signed}
 use Rattle.text.specs.Columns.{Column, ◌holds◌, Value, values, letter_at, integer_at, count_at, names_length}
 use Rattle.row.specs.declared.tolerances.ToleranceRow.{ToleranceRow}
-use Rattle.row.specs.declared.tolerances.ToleranceParsed.{ToleranceParsed}
-use Rattle.row.specs.declared.tolerances.ToleranceParsed.TheVariants.{Row, NoRow}
-use Rattle.row.specs.Parsing.{Parsing, a_row, no_row, parsed_by}
+use Rattle.row.specs.Parsing.{parsed_by}
 use Rattle.row.specs.Places.{digits}
 use Rattle.row.specs.Limits.{limits}
 
@@ -34,10 +33,5 @@ row_from names row = record {
 abbrev pub row_of : List ℕ → ToleranceRow
 row_of line = row_from (names_length line) (values columns line)
 
--- What each case stands for.
-abbrev pub stated : ToleranceParsed → Parsing ToleranceRow
-stated (Row row) = a_row row
-stated (NoRow fault) = no_row fault
-
-abbrev pub parsed_as : List ℕ → Parsing ToleranceRow
+abbrev pub parsed_as : List ℕ → Result ToleranceRow Fault
 parsed_as = parsed_by columns row_of

@@ -1,19 +1,25 @@
 // A row of a list of steps to be taken forward: id, law, t and the five places of a certificate.
-ghost use Rattle.std.specs.Prelude.{◌≡◌, false};
-ghost use Rattle.text.specs.Columns.{well_formed};
-ghost use Rattle.row.specs.Parsing.{held_by};
-ghost use Rattle.row.specs.Forward.{columns, stated, parsed_as};
+ghost use Rattle.std.specs.Prelude.{refl};
+ghost use Rattle.row.specs.Forward.{columns, row_of};
 
 use crate::digits::DIGITS;
+use crate::row::Row;
 use certificate::Given;
 use deviation::Places;
 use law::Name;
 use quantity::{Celsius, Ratio};
-use text::{
-    Fault, Holds, LONGEST_LINE, MOST_COLUMNS, after_id, fault_in, name_at, number_at, signed_at,
-};
+use text::{Holds, after_id, name_at, number_at, signed_at};
 
-pub const FORWARD_COLUMNS: usize = 8;
+const COLUMNS: [Holds; 8] = [
+    Holds::Id,
+    Holds::Name,
+    Holds::Signed(DIGITS),
+    Holds::Signed(DIGITS),
+    Holds::Signed(DIGITS),
+    Holds::Signed(DIGITS),
+    Holds::Signed(DIGITS),
+    Holds::Natural(DIGITS),
+];
 
 // `names` is how many bytes the first two fields take, with the comma after each.
 #[derive(Clone, Copy)]
@@ -23,72 +29,41 @@ pub struct ForwardRow {
     pub step: Celsius,
 }
 
-#[derive(Clone, Copy)]
-pub enum ForwardParsed {
-    Row(ForwardRow),
-    NoRow(Fault),
-}
+impl Row for ForwardRow {
+    ghost columns = { columns };
 
-// What the columns hold, in an array of the most that a list has.
-pub fn forward_columns() -> [Holds; MOST_COLUMNS]
-    ensures { result ≡ held_by columns }
-{
-    [
-        Holds::Id,
-        Holds::Name,
-        Holds::Signed(DIGITS),
-        Holds::Signed(DIGITS),
-        Holds::Signed(DIGITS),
-        Holds::Signed(DIGITS),
-        Holds::Signed(DIGITS),
-        Holds::Natural(DIGITS),
-        Holds::Id,
-        Holds::Id,
-        Holds::Id,
-        Holds::Id,
-        Holds::Id,
-        Holds::Id,
-        Holds::Id,
-        Holds::Id,
-    ]
-}
+    ghost row_of = { row_of };
 
-fn no_row(line: &[u8]) -> ForwardParsed
-    requires { well_formed columns line.now ≡ false }
-    ensures { stated result ≡ parsed_as line.now }
-{
-    ForwardParsed::NoRow(fault_in(line, forward_columns(), FORWARD_COLUMNS))
-}
+    ghost narrow = { refl };
 
-// What a line says, without its CRLF.
-pub fn parse_forward(line: &[u8]) -> ForwardParsed
-    ensures { stated result ≡ parsed_as line.now }
-{
-    if LONGEST_LINE < line.len() {
-        return no_row(line);
+    fn columns() -> &'static [Holds] {
+        &COLUMNS
     }
-    let law = name_at(line, after_id(line));
-    let t = signed_at(line, law.next, DIGITS);
-    let a = signed_at(line, t.next, DIGITS);
-    let b = signed_at(line, a.next, DIGITS);
-    let c = signed_at(line, b.next, DIGITS);
-    let d = signed_at(line, c.next, DIGITS);
-    let wal = number_at(line, d.next, DIGITS);
-    if wal.next != line.len() + 1 {
-        return no_row(line);
-    }
-    ForwardParsed::Row(ForwardRow {
-        names: law.next,
-        certificate: Given {
-            law: Name(law.value),
-            places: Places {
-                a: a.value,
-                b: b.value,
-                c: c.value,
-                d: d.value,
-                wal: Ratio(wal.value),
+
+    fn read(line: &[u8]) -> Option<Self> {
+        let law = name_at(line, after_id(line));
+        let t = signed_at(line, law.next, DIGITS);
+        let a = signed_at(line, t.next, DIGITS);
+        let b = signed_at(line, a.next, DIGITS);
+        let c = signed_at(line, b.next, DIGITS);
+        let d = signed_at(line, c.next, DIGITS);
+        let wal = number_at(line, d.next, DIGITS);
+        if wal.next != line.len() + 1 {
+            return None;
+        }
+        Some(ForwardRow {
+            names: law.next,
+            certificate: Given {
+                law: Name(law.value),
+                places: Places {
+                    a: a.value,
+                    b: b.value,
+                    c: c.value,
+                    d: d.value,
+                    wal: Ratio(wal.value),
+                },
             },
-        },
-        step: Celsius(t.value),
-    })
+            step: Celsius(t.value),
+        })
+    }
 }

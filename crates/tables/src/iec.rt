@@ -1,11 +1,8 @@
 // Figures of IEC 60751 (IEC 751 with Amendment 2 of 1995): its table of resistances for R0 = 100 ohm and its table of tolerances.
-ghost use Rattle.std.specs.Prelude.{◌+◌, ◌^◌, ◌<◌, unsigned_abs};
+ghost use Rattle.std.specs.Prelude.{◌^◌, ◌<◌, unsigned_abs};
 
-use crate::DEGREE;
+use crate::figure::{DEGREE, Figure, degrees, hundredths};
 use crate::tally::Tally;
-use curve::ToleranceAnswer;
-use evidence::{ONE, say, say_difference, say_natural, say_refused, say_signed};
-use law::{ForwardAnswer, ReadingAnswer};
 use quantity::{Celsius, LARGEST_RATIO, Nanoohm};
 
 // R0 = 100 ohm, in nanoohms.
@@ -39,221 +36,156 @@ const OHMS: [u16; 106] = [
     375_70, 378_68, 381_65, 384_60, 387_55, 390_48,
 ];
 
-fn wide(x: u16) -> u64
-    ensures { result < 2 ^ 16 }
+// The step of so many degrees.
+fn at(degrees: i16) -> Celsius
+    ensures { unsigned_abs result.0 < 2 ^ 30 }
 {
-    x as u64
+    Celsius(i64::from(degrees) * DEGREE as i64)
 }
 
-// The step of a row.
-fn step_of(i: u64) -> i64
-    requires { i < 106 }
-{
-    whole::difference(whole::signed(100_000 * i), 200_0000)
-}
-
-// What the published resistance reads.
+// What the published resistance reads, the last of a row.
 fn reading(out: &impl Print, r: Nanoohm) {
-    say(out, b" reads");
-    match curve::read_by(r, Nanoohm(R0)) {
-        ReadingAnswer::Read(reading) => {
-            let step = reading.step;
-            say_signed(out, step.0, DEGREE)
-        }
-        ReadingAnswer::Refused(why) => say_refused(out, why.number() as u64),
-    }
+    let _ = match curve::read_by(r, Nanoohm(R0)) {
+        Ok(reading) => println!(out; "reads {}", degrees(reading.step.0)),
+        Err(why) => println!(out; "reads refused {}", why.number()),
+    };
 }
 
 // The curve's ratio and its ohms beside the published ones, and what those read.
-fn ratio_beside(out: &impl Print, ohms: u64, r: Nanoohm, w: u64, tally: Tally) -> Tally {
-    // To the nearest hundredth and half up: in half hundredths first, so that no ratio is too large to add to.
-    let worked = (w / 50_000 + 1) / 2;
-    say_natural(out, w, 1_000_000_000);
-    say_natural(out, worked, 100);
-    let after = tally.verdict(out, worked == ohms);
-    reading(out, r);
-    after
-}
-
-fn resistance(out: &impl Print, i: u64, tally: Tally) -> Tally
-    requires { i < 106 }
-{
-    let at = i as usize;
-    let ohms = wide(OHMS[at]);
-    let r = Nanoohm(ohms * 10_000_000);
-    let step = step_of(i);
-    say(out, b"iec");
-    say_signed(out, whole::floor_by(step, DEGREE), ONE);
-    say_natural(out, ohms, 100);
-    match curve::forward(Celsius(step)) {
-        ForwardAnswer::At(forward) => {
-            let w = forward.ratio;
-            ratio_beside(out, ohms, r, w.0, tally)
+fn resistance(out: &impl Print, row: i16, ohms: u16, tally: &mut Tally) {
+    let ohms = u64::from(ohms);
+    let _ = print!(out; "iec {row} {} ", hundredths(ohms));
+    match curve::forward(at(row)) {
+        Ok(forward) => {
+            let w = forward.ratio.0;
+            // To the nearest hundredth and half up: in half hundredths first, so that no ratio is too large to add to.
+            let worked = (w / 50_000 + 1) / 2;
+            let ratio = Figure {
+                count: w,
+                unit: 1_000_000_000,
+            };
+            let verdict = tally.verdict(worked == ohms);
+            let _ = print!(out; "{ratio} {} {verdict} ", hundredths(worked));
+            reading(out, Nanoohm(ohms * 10_000_000));
         }
-        ForwardAnswer::Refused(why) => {
-            say_refused(out, why.number() as u64);
-            tally
+        Err(why) => {
+            let _ = println!(out; "refused {}", why.number());
         }
     }
 }
 
-pub fn resistances(out: &impl Print, before: Tally) -> Tally {
-    let mut tally = before;
-    let mut i: u64 = 0;
-    while i < 106 {
-        tally = resistance(out, i, tally);
-        say(out, b"\n");
-        i += 1;
+pub fn resistances(out: &impl Print, tally: &mut Tally) {
+    for (i, ohms) in OHMS.iter().enumerate() {
+        resistance(out, 10 * i as i16 - 200, *ohms, tally);
     }
-    tally
 }
 
 // ---- tolerances
 
-// Ten rows of class A, then thirteen of class B.
-fn class_of(i: u64) -> u8 {
-    if i < 10 {
-        return b'A';
-    }
-    b'B'
-}
-
-fn bath(i: u64) -> i64
-    ensures { unsigned_abs result < 2 ^ 24 }
-{
-    match i {
-        0 | 10 => -200_0000,
-        1 | 11 => -100_0000,
-        2 | 12 => 0,
-        3 | 13 => 100_0000,
-        4 | 14 => 200_0000,
-        5 | 15 => 300_0000,
-        6 | 16 => 400_0000,
-        7 | 17 => 500_0000,
-        8 | 18 => 600_0000,
-        9 | 19 => 650_0000,
-        20 => 700_0000,
-        21 => 800_0000,
-        _ => 850_0000,
-    }
-}
-
-// In hundredths of a degree.
-const LIMITS: [u64; 23] = [
-    // class A
-    0_55, 0_35, 0_15, 0_35, 0_55, 0_75, 0_95, 1_15, 1_35, 1_45,
-    // class B
-    1_30, 0_80, 0_30, 0_80, 1_30, 1_80, 2_30, 2_80, 3_30, 3_60, 3_80, 4_30, 4_60,
+// The class, the bath in degrees, and the printed limit in hundredths of a degree.
+const LIMITS: [(u8, i16, u16); 23] = [
+    (b'A', -200, 0_55),
+    (b'A', -100, 0_35),
+    (b'A', 0, 0_15),
+    (b'A', 100, 0_35),
+    (b'A', 200, 0_55),
+    (b'A', 300, 0_75),
+    (b'A', 400, 0_95),
+    (b'A', 500, 1_15),
+    (b'A', 600, 1_35),
+    (b'A', 650, 1_45),
+    (b'B', -200, 1_30),
+    (b'B', -100, 0_80),
+    (b'B', 0, 0_30),
+    (b'B', 100, 0_80),
+    (b'B', 200, 1_30),
+    (b'B', 300, 1_80),
+    (b'B', 400, 2_30),
+    (b'B', 500, 2_80),
+    (b'B', 600, 3_30),
+    (b'B', 650, 3_60),
+    (b'B', 700, 3_80),
+    (b'B', 800, 4_30),
+    (b'B', 850, 4_60),
 ];
 
 // The step that is so far from the bath: above it, or below it where the curve ends.
-fn step_off(bath: i64, error: u64) -> i64
-    requires { (unsigned_abs bath < 2 ^ 24) × (error < 2 ^ 24) }
-{
-    if whole::at_most(850_0000, bath) {
-        return whole::difference(bath, whole::signed(error));
+fn step_off(bath: i16, error: u16) -> Celsius {
+    let step = at(bath).0;
+    let error = i64::from(error);
+    if 850 <= bath {
+        return Celsius(step - error);
     }
-    whole::sum(bath, whole::signed(error))
+    Celsius(step + error)
 }
 
 // Whether a thermometer passes that reads the step of a ratio: one unit more than the step's ratio reads the step itself. Past 4.4 nothing is read.
-fn ratio_passes(class: u8, bath: i64, w: u64) -> bool {
+fn ratio_passes(class: u8, bath: i16, w: u64) -> bool {
     if LARGEST_RATIO < w {
         return false;
     }
-    match curve::tolerance_test(class, Celsius(bath), Nanoohm((w + 1) * 100), Nanoohm(R0)) {
-        ToleranceAnswer::Tested(result) => result.passes,
-        ToleranceAnswer::Refused(_) => false,
+    match curve::tolerance_test(class, at(bath), Nanoohm((w + 1) * 100), Nanoohm(R0)) {
+        Ok(result) => result.passes,
+        Err(_) => false,
     }
 }
 
-fn passes(class: u8, bath: i64, error: u64) -> bool
-    requires { (unsigned_abs bath < 2 ^ 24) × (error < 2 ^ 24) }
-{
-    match curve::forward(Celsius(step_off(bath, error))) {
-        ForwardAnswer::At(forward) => {
-            let w = forward.ratio;
-            ratio_passes(class, bath, w.0)
-        }
-        ForwardAnswer::Refused(_) => false,
+fn passes(class: u8, bath: i16, error: u16) -> bool {
+    match curve::forward(step_off(bath, error)) {
+        Ok(forward) => ratio_passes(class, bath, forward.ratio.0),
+        Err(_) => false,
     }
 }
 
-// The largest error that passes, up to 65,535 steps, by halving.
-fn largest_error(class: u8, bath: i64) -> u64
-    requires { unsigned_abs bath < 2 ^ 24 }
-    ensures { result < 2 ^ 17 }
-{
-    let mut error: u64 = 0;
-    let mut size: u64 = 32_768;
-    while 0 < size {
-        if passes(class, bath, error + size) {
-            error += size;
+// The largest error in steps that passes, bit by bit.
+fn largest_error(class: u8, bath: i16) -> u16 {
+    let mut error = 0;
+    for i in 0..16u32 {
+        let larger = error | 0x8000 >> i;
+        if passes(class, bath, larger) {
+            error = larger;
         }
-        size /= 2;
     }
     error
 }
 
 // The class, the bath, the printed limit and the largest error that passes.
-fn limits(out: &impl Print, class: u8, bath: i64, limit: u64, error: u64) {
-    let letter = [b' ', class];
-    say(out, &letter);
-    say_signed(out, whole::floor_by(bath, DEGREE), ONE);
-    say_natural(out, limit, 100);
-    say_natural(out, error, DEGREE);
+fn limits(out: &impl Print, label: &str, class: u8, bath: i16, limit: u16, error: u16) {
+    let class = char::from(class);
+    let limit = hundredths(u64::from(limit));
+    let error = degrees(u64::from(error));
+    let _ = print!(out; "{label} {class} {bath} {limit} {error} ");
 }
 
 // An error to the printed decimals, half up, in hundredths of a degree: class A has hundredths and class B tenths.
-fn as_printed(class: u8, error: u64) -> u64
-    requires { error < 2 ^ 17 }
-{
+fn as_printed(class: u8, error: u16) -> u64 {
+    let error = u64::from(error);
     if class == b'A' {
         return (error + 50) / 100;
     }
     (error + 500) / 1000 * 10
 }
 
-fn tolerance(out: &impl Print, i: u64, tally: Tally) -> Tally
-    requires { i < 23 }
-{
-    let at = i as usize;
-    let limit = LIMITS[at];
-    let class = class_of(i);
-    let t = bath(i);
-    let error = largest_error(class, t);
-    let agrees = as_printed(class, error) == limit;
-    say(out, b"tolerance");
-    limits(out, class, t, limit, error);
-    tally.verdict(out, agrees)
-}
-
-pub fn tolerances(out: &impl Print, before: Tally) -> Tally {
-    let mut tally = before;
-    let mut i: u64 = 0;
-    while i < 23 {
-        tally = tolerance(out, i, tally);
-        say(out, b"\n");
-        i += 1;
+pub fn tolerances(out: &impl Print, tally: &mut Tally) {
+    for (class, bath, limit) in LIMITS {
+        let error = largest_error(class, bath);
+        limits(out, "tolerance", class, bath, limit, error);
+        let verdict = tally.verdict(as_printed(class, error) == u64::from(limit));
+        let _ = println!(out; "{verdict}");
     }
-    tally
 }
 
 // ---- slips
 
-fn slip(out: &impl Print, class: u8, bath: i64, limit: u64)
-    requires { (unsigned_abs bath < 2 ^ 24) × (limit < 2 ^ 16) }
-{
+fn slip(out: &impl Print, class: u8, bath: i16, limit: u16) {
     let error = largest_error(class, bath);
-    say(out, b"slip");
-    limits(out, class, bath, limit, error);
-    say_difference(out, limit * 100, error, DEGREE);
-    say(out, b"\n");
+    limits(out, "slip", class, bath, limit, error);
+    let _ = println!(out; "{}", degrees(i64::from(limit) * 100 - i64::from(error)));
 }
 
 // Tolerances that the paper which names the edition prints otherwise.
 pub fn slips(out: &impl Print) {
-    slip(out, b'A', -200_0000, 0_50);
-    slip(out, b'A', 650_0000, 1_50);
-    slip(out, b'B', 850_0000, 4_75);
+    slip(out, b'A', -200, 0_50);
+    slip(out, b'A', 650, 1_50);
+    slip(out, b'B', 850, 4_75);
 }

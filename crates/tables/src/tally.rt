@@ -1,8 +1,6 @@
-// How many figures agreed and how many did not.
-use evidence::{ONE, say, say_natural};
-use std::num::wrapping_add_u64;
-
 // How many published figures agree and how many differ.
+use std::fmt;
+
 #[derive(Clone, Copy)]
 pub struct Tally {
     pub agree: u64,
@@ -10,27 +8,19 @@ pub struct Tally {
 }
 
 impl Tally {
-    // Writes a verdict and counts it.
-    pub fn verdict(self, out: &impl Print, agrees: bool) -> Tally {
+    // Counts a verdict, and gives its word.
+    pub fn verdict(&mut self, agrees: bool) -> &'static str {
         if agrees {
-            say(out, b" agrees");
-            return Tally {
-                agree: wrapping_add_u64(self.agree, 1),
-                differ: self.differ,
-            };
+            self.agree = self.agree.wrapping_add(1);
+            return "agrees";
         }
-        say(out, b" differs");
-        Tally {
-            agree: self.agree,
-            differ: wrapping_add_u64(self.differ, 1),
-        }
+        self.differ = self.differ.wrapping_add(1);
+        "differs"
     }
+}
 
-    pub fn print(self, out: &impl Print) {
-        say(out, b"tables:");
-        say_natural(out, self.agree, ONE);
-        say(out, b" agree,");
-        say_natural(out, self.differ, ONE);
-        say(out, b" differ\n");
+impl fmt::Display for Tally {
+    fn fmt<W: fmt::Write>(&self, f: &mut fmt::Formatter<W>) -> fmt::Result {
+        write!(f, "{} agree, {} differ", self.agree, self.differ)
     }
 }

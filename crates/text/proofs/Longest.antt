@@ -8,11 +8,12 @@ use native.Mathlib.Omega.{arith}
 use lib.Dec.{eqb}
 use lib.ListN.{length, drop, length-drop}
 use borrow.Author.Tests.{eq-eqb}
+use Rattle.std.specs.List.{list_all}
 use Rattle.whole.specs.Choice.{if◌then◌otherwise◌}
 use Rattle.whole.proofs.Choice.{and_true}
 use Rattle.text.specs.declared.columns.Holds.{Holds}
 use Rattle.text.specs.declared.columns.Holds.TheVariants.{Id, Name, Letter, Natural, Signed}
-use Rattle.text.specs.Fields.{field, later, fields, sized, every, digit, small, letter}
+use Rattle.text.specs.Fields.{field, later, fields, sized, digit, small, letter}
 use Rattle.text.specs.Numbers.{leading_zero, is_number, value_of}
 use Rattle.text.specs.Columns.{Column, held, id_byte, longest_id, longest_name, rule, rule_of, most_bytes, with_commas}
 use Rattle.text.specs.Promised.{FieldsShort}
@@ -21,7 +22,7 @@ use Rattle.text.proofs.Names.{sized-short}
 use Rattle.text.proofs.Faults.{map-long}
 
 number_short : (most : ℕ) (s : List ℕ) → is_number most s ≡ true → length s ≤ most
-number_short most s e = sized-short most digit s (and_true (sized 1 most s && every digit s) (not (leading_zero s)) e).0
+number_short most s e = sized-short most digit s (and_true (sized 1 most s && list_all digit s) (not (leading_zero s)) e).0
 
 signed_short : (most : ℕ) (s : List ℕ) → rule_of (Signed most) s ≡ true → length s ≤ most + 1
 signed_short most [] e = omega arith

@@ -8,9 +8,10 @@ use lib.Dec.{leb}
 use lib.ListN.{length, take, drop, get_or, length-append}
 use lib.Seq.{take_at, length-take-le}
 use borrow.Author.Tests.{leb-true}
+use Rattle.std.specs.List.{list_all}
 use Rattle.whole.specs.Text.{ascii}
 use Rattle.whole.proofs.Choice.{and_true}
-use Rattle.text.specs.Fields.{field, later, fields, sized, every}
+use Rattle.text.specs.Fields.{field, later, fields, sized}
 use Rattle.text.specs.Joined.{joined}
 use Rattle.text.specs.Columns.{Column, rule, well_formed, longest_line, field_at, names_length}
 use Rattle.text.specs.Scanned.{next_at}
@@ -62,8 +63,8 @@ module _ (c₁ c₂ c₃ : Column) (cs : List Column) (line : List ℕ) where
           }
 
 -- a field of a rule by size has no more bytes than that
-pub sized-short : (most : ℕ) (kind : ℕ → Bool) (s : List ℕ) → (sized 1 most s && every kind s) ≡ true → length s ≤ most
-sized-short most kind s e = leb-true (length s) most (and_true (leb 1 (length s)) (leb (length s) most) (and_true (sized 1 most s) (every kind s) e).0).1
+pub sized-short : (most : ℕ) (kind : ℕ → Bool) (s : List ℕ) → (sized 1 most s && list_all kind s) ≡ true → length s ≤ most
+sized-short most kind s e = leb-true (length s) most (and_true (leb 1 (length s)) (leb (length s) most) (and_true (sized 1 most s) (list_all kind s) e).0).1
 
 -- the part of the line that an answer repeats
 pub record Repeated (line : List ℕ) (n : ℕ) : Type 0 where

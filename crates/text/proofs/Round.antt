@@ -10,10 +10,11 @@ use lib.Dec.{eqb}
 use lib.IntN.{pos, negsuc, ◌-ℤ◌}
 use lib.ListN.{length, get_or, get_or-append}
 use borrow.Author.Tests.{le-leb, eqb-true, eqb-false, ne_eqb, not-true}
+use Rattle.std.specs.List.{list_all}
 use Rattle.whole.specs.Choice.{if◌then◌otherwise◌}
 use Rattle.whole.proofs.Choice.{and_true}
 use Rattle.whole.proofs.Parts.{ints, sub_parts}
-use Rattle.text.specs.Fields.{sized, every, digit}
+use Rattle.text.specs.Fields.{sized, digit}
 use Rattle.text.specs.Numbers.{leading_zero, is_number, digits_after, value_of, is_signed, signed_of}
 use Rattle.text.proofs.Digits.{digits_more, digit_bounds}
 use Rattle.text.specs.Decimal.{decimal, signed_decimal}
@@ -21,22 +22,22 @@ use Rattle.text.specs.Promised.{NumberReadBack, SignedReadBack, NumberWrittenBac
 use Rattle.text.proofs.Decimals.{decimal-one, decimal_more, some_digit, few_digits}
 
 -- ---- what the rule of a number says
-number_parts : (most : ℕ) (s : List ℕ) → is_number most s ≡ true → (every digit s ≡ true) × (leading_zero s ≡ false)
+number_parts : (most : ℕ) (s : List ℕ) → is_number most s ≡ true → (list_all digit s ≡ true) × (leading_zero s ≡ false)
 number_parts most s e =
-    let p = and_true (sized 1 most s && every digit s) (not (leading_zero s)) e in
-    ((and_true (sized 1 most s) (every digit s) p.0).1, not-true (leading_zero s) p.1)
+    let p = and_true (sized 1 most s && list_all digit s) (not (leading_zero s)) e in
+    ((and_true (sized 1 most s) (list_all digit s) p.0).1, not-true (leading_zero s) p.1)
 
 -- ---- what the digits of a number are
 digit_of : (d : ℕ) → d < 10 → digit (code "0" + d) ≡ true
 digit_of d h = rw (le-leb (code "0") (code "0" + d) (omega arith), le-leb (code "0" + d) (code "9") (omega arith))
 
-every_more : (kind : ℕ → Bool) (x : List ℕ) (b : ℕ) → every kind x ≡ true → kind b ≡ true → every kind (x ++ (b ∷ [])) ≡ true
+every_more : (kind : ℕ → Bool) (x : List ℕ) (b : ℕ) → list_all kind x ≡ true → kind b ≡ true → list_all kind (x ++ (b ∷ [])) ≡ true
 every_more kind [] b e k = rw k
-every_more kind (a ∷ x) b e k = let p = and_true (kind a) (every kind x) e in rw p.0 (every_more kind x b p.1 k)
+every_more kind (a ∷ x) b e k = let p = and_true (kind a) (list_all kind x) e in rw p.0 (every_more kind x b p.1 k)
 
 -- s is n in digits, and starts with a 0 only where n is 0
 record Spelt (n : ℕ) (s : List ℕ) : Type 0 where
-  digits : every digit s ≡ true
+  digits : list_all digit s ≡ true
   value : value_of s ≡ n
   first : 1 ≤ n → get_or s 0 0 ≡ code "0" → ⊥
 
@@ -88,7 +89,7 @@ number_read_back (suc most) n one h =
 signed_plain : (most : ℕ) (s : List ℕ) → is_number most s ≡ true → (is_signed most s ≡ true) × (signed_of s ≡ pos (value_of s))
 signed_plain most [] e = absurd (false≢true e)
 signed_plain most (b ∷ s) e =
-    let d = digit_bounds b (and_true (digit b) (every digit s) (number_parts most (b ∷ s) e).0).0 in
+    let d = digit_bounds b (and_true (digit b) (list_all digit s) (number_parts most (b ∷ s) e).0).0 in
     rw (ne_eqb b (code "-") (λ k. omega (arith, d, k))) (e, refl)
 
 negated : (n : ℕ) → pos 0 -ℤ pos (suc n) ≡ negsuc n
@@ -103,10 +104,10 @@ signed_read_back most (negsuc n) one h = let p = number_read_back most (suc n) o
 
 -- ---- a number read and written back
 -- digits after those of a number above 0
-written_after : (n : ℕ) (x : List ℕ) → 1 ≤ n → every digit x ≡ true → decimal (digits_after n x) ≡ decimal n ++ x
+written_after : (n : ℕ) (x : List ℕ) → 1 ≤ n → list_all digit x ≡ true → decimal (digits_after n x) ≡ decimal n ++ x
 written_after n [] h e = sym (append-nil (decimal n))
 written_after n (b ∷ x) h e =
-    let p = and_true (digit b) (every digit x) e in
+    let p = and_true (digit b) (list_all digit x) e in
     let d = digit_bounds b p.0 in
     let m = n * 10 + (b - code "0") in
     let q : m / 10 ≡ n = omega arith in
@@ -126,7 +127,7 @@ number_written_back most [] e = absurd (false≢true e)
 number_written_back most (b ∷ []) e = written_one b (and_true (digit b) true (number_parts most (b ∷ []) e).0).0
 number_written_back most (b ∷ c ∷ s) e =
     let p = number_parts most (b ∷ c ∷ s) e in
-    let q = and_true (digit b) (every digit (c ∷ s)) p.0 in
+    let q = and_true (digit b) (list_all digit (c ∷ s)) p.0 in
     let d = digit_bounds b q.0 in
     let k : 1 ≤ value_of (b ∷ []) = omega (arith, eqb-false b (code "0") p.1) in
     written_after (value_of (b ∷ [])) (c ∷ s) k q.1 ∙ ap (λ (x : List ℕ). x ++ (c ∷ s)) (written_one b q.0)

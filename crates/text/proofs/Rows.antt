@@ -2,11 +2,13 @@
 use mathlib.Core.Path.{◌≡◌, refl, sym, ap, ◌∙◌}
 use mathlib.Core.Bool.{Bool, true, false, false≢true, ◌&&◌, not}
 use mathlib.Core.List.{List, [], ◌∷◌, map}
-use mathlib.Core.Option.{Option, some}
+use Rattle.std.specs.Prelude.{Option, Some}
+use Rattle.std.specs.Option.{is_none}
 use native.Mathlib.Omega.{arith}
 use Prim.Native.Nat.{ℕ, suc, ◌+◌, ◌≤◌, ◌<◌}
 use Prim.Native.Char.{code}
 use Prim.Native.String.{String}
+use lib.IntN.{ℤ}
 use lib.Dec.{leb, eqb}
 use lib.ListN.{length, drop, length-drop}
 use lib.Seq.{drop-drop}
@@ -15,7 +17,6 @@ use Rattle.whole.specs.Choice.{if◌then◌otherwise◌}
 use Rattle.whole.specs.Text.{name_of}
 use Rattle.whole.proofs.Choice.{and_true}
 use Rattle.text.specs.declared.field.Scanned.{Scanned}
-use Rattle.text.specs.declared.number.Signed.{Signed}
 use Rattle.text.specs.Fields.{field, later, fields}
 use Rattle.text.specs.Numbers.{is_number, value_of}
 use Rattle.text.specs.declared.columns.Holds.{Holds}
@@ -23,7 +24,7 @@ use Rattle.text.specs.declared.columns.Holds.TheVariants as holds
 use Rattle.text.specs.declared.columns.Fault.{Fault}
 use Rattle.text.specs.declared.columns.Fault.TheVariants.{WrongCount, Broken}
 use Rattle.text.specs.Columns as columns
-use Rattle.text.specs.Columns.{Column, ◌holds◌, held, is_id, is_name, is_letter, longest_line, rule, rule_of, first_broken, fault_by, fault_of, is_none, well_formed, Value, first_byte, said_by, values}
+use Rattle.text.specs.Columns.{Column, ◌holds◌, held, is_id, is_name, is_letter, longest_line, rule, rule_of, first_broken, fault_by, fault_of, well_formed, Value, first_byte, said_by, values}
 use Rattle.text.specs.Scanned.{nowhere, next_of, next_at, scanned_at, signed_at}
 
 -- ---- one field for each column, which keeps its rule
@@ -48,12 +49,12 @@ kept_none n (c ∷ cs) [] = rw (ne_eqb 0 (suc (length (map held cs))) (λ e. ome
 kept_none n (c ∷ cs) (f ∷ fs) = rw (eqb_suc (length fs) (length (map held cs))) (by (rule c f) (eqb (length fs) (length (map held cs))) (kept_none (n + 1) cs fs))
   where
     by : (t u : Bool) → keep cs fs ≡ (if not u then false otherwise is_none (first_broken (n + 1) (map held cs) fs))
-        → (t && keep cs fs) ≡ (if not u then false otherwise is_none (if t then first_broken (n + 1) (map held cs) fs otherwise some (Broken n)))
+        → (t && keep cs fs) ≡ (if not u then false otherwise is_none (if t then first_broken (n + 1) (map held cs) fs otherwise Some (Broken n)))
     by true u e = e
     by false true e = refl
     by false false e = refl
 
-is-none : (t : Bool) (this : Fault) (that : Option Fault) → is_none (if t then some this otherwise that) ≡ (if t then false otherwise is_none that)
+is-none : (t : Bool) (this : Fault) (that : Option Fault) → is_none (if t then Some this otherwise that) ≡ (if t then false otherwise is_none that)
 is-none true this that = refl
 is-none false this that = refl
 
@@ -189,32 +190,32 @@ module _ (line : List ℕ) where
     done : {from : ℕ} → Scan [] from from []
     an-id : {title : String} {cs : List Column} {from end : ℕ} {vs : List Value} (next : ℕ) → next ≡ next_at is_id line from → Scan cs next end vs
         → Scan ((title holds holds.Id) ∷ cs) from end (columns.word (field (drop from line)) ∷ vs)
-    a-name : {title : String} {cs : List Column} {from end : ℕ} {vs : List Value} (x : Scanned) → x ≡ scanned_at is_name name_of line from → Scan cs x.next end vs
+    a-name : {title : String} {cs : List Column} {from end : ℕ} {vs : List Value} (x : Scanned ℕ) → x ≡ scanned_at is_name name_of line from → Scan cs x.next end vs
         → Scan ((title holds holds.Name) ∷ cs) from end (columns.named x.value ∷ vs)
-    a-letter : {title : String} {cs : List Column} {from end : ℕ} {vs : List Value} (x : Scanned) → x ≡ scanned_at is_letter first_byte line from → Scan cs x.next end vs
+    a-letter : {title : String} {cs : List Column} {from end : ℕ} {vs : List Value} (x : Scanned ℕ) → x ≡ scanned_at is_letter first_byte line from → Scan cs x.next end vs
         → Scan ((title holds holds.Letter) ∷ cs) from end (columns.byte x.value ∷ vs)
-    a-natural : {title : String} {most : ℕ} {cs : List Column} {from end : ℕ} {vs : List Value} (x : Scanned) → x ≡ scanned_at (is_number most) value_of line from → Scan cs x.next end vs
+    a-natural : {title : String} {most : ℕ} {cs : List Column} {from end : ℕ} {vs : List Value} (x : Scanned ℕ) → x ≡ scanned_at (is_number most) value_of line from → Scan cs x.next end vs
         → Scan ((title holds holds.Natural most) ∷ cs) from end (columns.count x.value ∷ vs)
-    a_signed : {title : String} {most : ℕ} {cs : List Column} {from end : ℕ} {vs : List Value} (x : Signed) → x ≡ signed_at most line from → Scan cs x.next end vs
+    a_signed : {title : String} {most : ℕ} {cs : List Column} {from end : ℕ} {vs : List Value} (x : Scanned ℤ) → x ≡ signed_at most line from → Scan cs x.next end vs
         → Scan ((title holds holds.Signed most) ∷ cs) from end (columns.integer x.value ∷ vs)
 
   scan-ends : {cs : List Column} {from end : ℕ} {vs : List Value} → Scan cs from end vs → end ≡ end_of cs from
   unfolding end_of
   scan-ends done = refl
   scan-ends (an-id {cs = cs} next e s) = scan-ends s ∙ ap (end_of cs) e
-  scan-ends (a-name {cs = cs} x e s) = scan-ends s ∙ ap (λ (x : Scanned). end_of cs x.next) e
-  scan-ends (a-letter {cs = cs} x e s) = scan-ends s ∙ ap (λ (x : Scanned). end_of cs x.next) e
-  scan-ends (a-natural {cs = cs} x e s) = scan-ends s ∙ ap (λ (x : Scanned). end_of cs x.next) e
-  scan-ends (a_signed {cs = cs} x e s) = scan-ends s ∙ ap (λ (x : Signed). end_of cs x.next) e
+  scan-ends (a-name {cs = cs} x e s) = scan-ends s ∙ ap (λ (x : Scanned ℕ). end_of cs x.next) e
+  scan-ends (a-letter {cs = cs} x e s) = scan-ends s ∙ ap (λ (x : Scanned ℕ). end_of cs x.next) e
+  scan-ends (a-natural {cs = cs} x e s) = scan-ends s ∙ ap (λ (x : Scanned ℕ). end_of cs x.next) e
+  scan-ends (a_signed {cs = cs} x e s) = scan-ends s ∙ ap (λ (x : Scanned ℤ). end_of cs x.next) e
 
   scan-says : {cs : List Column} {from end : ℕ} {vs : List Value} → Scan cs from end vs → vs ≡ said_from cs from
   unfolding said_from said_at
   scan-says done = refl
   scan-says (an-id {cs = cs} {from = from} next e s) = ap (λ (vs : List Value). columns.word (field (drop from line)) ∷ vs) (scan-says s ∙ ap (said_from cs) e)
-  scan-says (a-name {cs = cs} x e s) = ap (λ (vs : List Value). columns.named x.value ∷ vs) (scan-says s) ∙ ap (λ (x : Scanned). columns.named x.value ∷ said_from cs x.next) e
-  scan-says (a-letter {cs = cs} x e s) = ap (λ (vs : List Value). columns.byte x.value ∷ vs) (scan-says s) ∙ ap (λ (x : Scanned). columns.byte x.value ∷ said_from cs x.next) e
-  scan-says (a-natural {cs = cs} x e s) = ap (λ (vs : List Value). columns.count x.value ∷ vs) (scan-says s) ∙ ap (λ (x : Scanned). columns.count x.value ∷ said_from cs x.next) e
-  scan-says (a_signed {cs = cs} x e s) = ap (λ (vs : List Value). columns.integer x.value ∷ vs) (scan-says s) ∙ ap (λ (x : Signed). columns.integer x.value ∷ said_from cs x.next) e
+  scan-says (a-name {cs = cs} x e s) = ap (λ (vs : List Value). columns.named x.value ∷ vs) (scan-says s) ∙ ap (λ (x : Scanned ℕ). columns.named x.value ∷ said_from cs x.next) e
+  scan-says (a-letter {cs = cs} x e s) = ap (λ (vs : List Value). columns.byte x.value ∷ vs) (scan-says s) ∙ ap (λ (x : Scanned ℕ). columns.byte x.value ∷ said_from cs x.next) e
+  scan-says (a-natural {cs = cs} x e s) = ap (λ (vs : List Value). columns.count x.value ∷ vs) (scan-says s) ∙ ap (λ (x : Scanned ℕ). columns.count x.value ∷ said_from cs x.next) e
+  scan-says (a_signed {cs = cs} x e s) = ap (λ (vs : List Value). columns.integer x.value ∷ vs) (scan-says s) ∙ ap (λ (x : Scanned ℤ). columns.integer x.value ∷ said_from cs x.next) e
 
   module _ {cs : List Column} {end : ℕ} {vs : List Value} (s : Scan cs 0 end vs) (short : length line ≤ longest_line) where
     form : well_formed cs line ≡ eqb end (length line + 1)

@@ -11,8 +11,9 @@ use lib.Dec.{leb, ltb, eqb}
 use lib.ListN.{length, take, drop, get_or, take-append-drop, drop_of_length-le}
 use lib.Seq.{take-suc, drop-cons, length-take-le}
 use borrow.Author.Tests.{eqb-true, le-leb, lt-leb}
+use Rattle.std.specs.List.{list_all}
 use Rattle.whole.proofs.Choice.{and_true}
-use Rattle.text.specs.Fields.{field, sized, every}
+use Rattle.text.specs.Fields.{field, sized}
 use Rattle.text.specs.Scanned.{ends, closes_at, next_if, next_of}
 
 pub and_false : (a : Bool) → (a && false) ≡ false
@@ -27,19 +28,16 @@ few : (n most : ℕ) → n ≤ most → (leb 1 n && leb n most) ≡ ltb 0 n
 few zero most h = refl
 few (suc n) most h = rw (le-leb 1 (suc n) (omega arith), le-leb (suc n) most h)
 
-every_more : (kind : ℕ → Bool) (x : List ℕ) (b : ℕ) → every kind x ≡ true → kind b ≡ true → every kind (x ++ (b ∷ [])) ≡ true
+every_more : (kind : ℕ → Bool) (x : List ℕ) (b : ℕ) → list_all kind x ≡ true → kind b ≡ true → list_all kind (x ++ (b ∷ [])) ≡ true
 every_more kind [] b h k = rw k
 every_more kind (a ∷ x) b h k =
-    let p = and_true (kind a) (every kind x) h in
+    let p = and_true (kind a) (list_all kind x) h in
     rw p.0 (every_more kind x b p.1 k)
 
 -- The first i bytes are of the kind.
 pub record Span (kind : ℕ → Bool) (s : List ℕ) (i : ℕ) : Type 0 where
   pub within : i ≤ length s
-  pub all : every kind (take i s) ≡ true
-
-pub span_start : (kind : ℕ → Bool) (s : List ℕ) → Span kind s 0
-span_start kind s = record { within = omega arith; all = refl }
+  pub all : list_all kind (take i s) ≡ true
 
 pub span_more : {kind : ℕ → Bool} {s : List ℕ} {i : ℕ} → Span kind s i → i < length s → kind (get_or s i 0) ≡ true → Span kind s (i + 1)
 span_more {kind} {s} {i} p h k = record {
@@ -49,8 +47,8 @@ span_more {kind} {s} {i} p h k = record {
 
 -- What a field is where a span stops: the span, or nothing that keeps the rule of so many bytes of the kind.
 pub data Ending (kind : ℕ → Bool) (most : ℕ) (s : List ℕ) (i : ℕ) : Type 0 where
-  whole : closes_at i s ≡ true → field s ≡ take i s → length (field s) ≡ i → (sized 1 most (field s) && every kind (field s)) ≡ true → Ending kind most s i
-  none : closes_at i s ≡ false → (sized 1 most (field s) && every kind (field s)) ≡ false → Ending kind most s i
+  whole : closes_at i s ≡ true → field s ≡ take i s → length (field s) ≡ i → (sized 1 most (field s) && list_all kind (field s)) ≡ true → Ending kind most s i
+  none : closes_at i s ≡ false → (sized 1 most (field s) && list_all kind (field s)) ≡ false → Ending kind most s i
 
 module _ (kind : ℕ → Bool) (no-comma : kind (code ",") ≡ false) where
   pub not-comma : (b : ℕ) → kind b ≡ true → eqb b (code ",") ≡ false
@@ -60,23 +58,23 @@ module _ (kind : ℕ → Bool) (no-comma : kind (code ",") ≡ false) where
       by true e = absurd (true≢false (sym k ∙ ap kind (eqb-true b (code ",") e) ∙ no-comma))
       by false e = refl
 
-  field-closed : (x rest : List ℕ) → every kind x ≡ true → ends rest ≡ true → field (x ++ rest) ≡ x
+  field-closed : (x rest : List ℕ) → list_all kind x ≡ true → ends rest ≡ true → field (x ++ rest) ≡ x
   field-closed [] [] h e = refl
   field-closed [] (b ∷ rest) h e = rw e
   field-closed (a ∷ x) rest h e =
-      let p = and_true (kind a) (every kind x) h in
+      let p = and_true (kind a) (list_all kind x) h in
       rw (not-comma a p.0) (ap (λ (l : List ℕ). a ∷ l) (field-closed x rest p.1 e))
 
-  field-broken : (x : List ℕ) (b : ℕ) (rest : List ℕ) → every kind x ≡ true → eqb b (code ",") ≡ false → kind b ≡ false → every kind (field (x ++ (b ∷ rest))) ≡ false
+  field-broken : (x : List ℕ) (b : ℕ) (rest : List ℕ) → list_all kind x ≡ true → eqb b (code ",") ≡ false → kind b ≡ false → list_all kind (field (x ++ (b ∷ rest))) ≡ false
   field-broken [] b rest h n k = rw (n, k)
   field-broken (a ∷ x) b rest h n k =
-      let p = and_true (kind a) (every kind x) h in
+      let p = and_true (kind a) (list_all kind x) h in
       rw (not-comma a p.0, p.0) (field-broken x b rest p.1 n k)
 
-  field-longer : (x : List ℕ) (b : ℕ) (rest : List ℕ) → every kind x ≡ true → kind b ≡ true → length x < length (field (x ++ (b ∷ rest)))
+  field-longer : (x : List ℕ) (b : ℕ) (rest : List ℕ) → list_all kind x ≡ true → kind b ≡ true → length x < length (field (x ++ (b ∷ rest)))
   field-longer [] b rest h k = rw (not-comma b k) (omega arith)
   field-longer (a ∷ x) b rest h k =
-      let p = and_true (kind a) (every kind x) h in
+      let p = and_true (kind a) (list_all kind x) h in
       rw (not-comma a p.0) (omega (arith, field-longer x b rest p.1 k))
 
   module _ {s : List ℕ} {i : ℕ} (p : Span kind s i) where
@@ -86,9 +84,9 @@ module _ (kind : ℕ → Bool) (no-comma : kind (code ",") ≡ false) where
     split : i < length s → s ≡ take i s ++ (get_or s i 0 ∷ drop (suc i) s)
     split h = sym (take-append-drop i s) ∙ ap (λ (l : List ℕ). take i s ++ l) (drop-cons s i 0 h)
 
-    broken : i < length s → ends (drop i s) ≡ false → kind (get_or s i 0) ≡ false → every kind (field s) ≡ false
+    broken : i < length s → ends (drop i s) ≡ false → kind (get_or s i 0) ≡ false → list_all kind (field s) ≡ false
     broken h e k =
-        ap (λ (l : List ℕ). every kind (field l)) (split h)
+        ap (λ (l : List ℕ). list_all kind (field l)) (split h)
         ∙ field-broken (take i s) (get_or s i 0) (drop (suc i) s) p.all (sym (ap ends (drop-cons s i 0 h)) ∙ e) k
 
     longer : i < length s → kind (get_or s i 0) ≡ true → i < length (field s)
@@ -105,10 +103,10 @@ module _ (kind : ℕ → Bool) (no-comma : kind (code ",") ≡ false) where
         at_end : ends (drop i s) ≡ true → (t : Bool) → ltb 0 i ≡ t → Ending kind most s i
         at_end e t z =
             let l : length (field s) ≡ i = ap length (closed e) ∙ length-take-le i s p.within in
-            let k : (sized 1 most (field s) && every kind (field s)) ≡ ltb 0 i = rw (ap (every kind) (closed e) ∙ p.all, l) (and_right (leb 1 i && leb i most) ∙ few i most room) in
+            let k : (sized 1 most (field s) && list_all kind (field s)) ≡ ltb 0 i = rw (ap (list_all kind) (closed e) ∙ p.all, l) (and_right (leb 1 i && leb i most) ∙ few i most room) in
             ended t z l k
           where
-            ended : (t : Bool) → ltb 0 i ≡ t → length (field s) ≡ i → (sized 1 most (field s) && every kind (field s)) ≡ ltb 0 i → Ending kind most s i
+            ended : (t : Bool) → ltb 0 i ≡ t → length (field s) ≡ i → (sized 1 most (field s) && list_all kind (field s)) ≡ ltb 0 i → Ending kind most s i
             ended true z l k = whole (rw (z, e)) (closed e) l (k ∙ z)
             ended false z l k = none (rw z) (k ∙ z)
 
@@ -121,7 +119,7 @@ module _ (kind : ℕ → Bool) (no-comma : kind (code ",") ≡ false) where
             ]
 
     -- one byte of the kind too many
-    pub overrun : (most : ℕ) → i ≡ most → i < length s → kind (get_or s i 0) ≡ true → (sized 1 most (field s) && every kind (field s)) ≡ false
+    pub overrun : (most : ℕ) → i ≡ most → i < length s → kind (get_or s i 0) ≡ true → (sized 1 most (field s) && list_all kind (field s)) ≡ false
     overrun most e h k =
         let l = longer h k in
         rw (lt-leb (length (field s)) most (omega arith), and_false (leb 1 (length (field s))))
@@ -137,6 +135,6 @@ module _ (kind : ℕ → Bool) (no-comma : kind (code ",") ≡ false) where
 
 -- where the next field starts
 pub next_stopped : {kind : ℕ → Bool} {most : ℕ} {s : List ℕ} {i : ℕ} → Ending kind most s i
-    → next_if (closes_at i s) i s ≡ next_of (λ (f : List ℕ). sized 1 most f && every kind f) s
+    → next_if (closes_at i s) i s ≡ next_of (λ (f : List ℕ). sized 1 most f && list_all kind f) s
 next_stopped (whole e f l k) = rw (e, k, l)
 next_stopped (none e k) = rw (e, k)

@@ -2,18 +2,19 @@
 use mathlib.Core.Path.{◌≡◌, refl, sym, ap₂}
 use mathlib.Core.Bool.{Bool, true, false, ◌&&◌, not}
 use mathlib.Core.List.{List, [], ◌∷◌, map}
-use mathlib.Core.Option.{some}
+use Rattle.std.specs.Prelude.{Some}
 use Prim.Native.Nat.{ℕ, ◌+◌, ◌≤◌}
 use native.Mathlib.Omega.{arith}
 use lib.Dec.{leb, ltb, eqb}
 use lib.ListN.{length}
 use borrow.Author.Tests.{leb-true, le-leb}
+use Rattle.std.specs.List.{list_all}
 use Rattle.whole.specs.Choice.{if◌then◌otherwise◌}
 use Rattle.whole.proofs.Choice.{and_true}
 use Rattle.text.specs.declared.columns.Holds.{Holds}
 use Rattle.text.specs.declared.columns.Holds.TheVariants.{Natural}
 use Rattle.text.specs.declared.columns.Fault.TheVariants.{TooLong, WrongCount, Broken}
-use Rattle.text.specs.Fields.{fields, sized, every, digit}
+use Rattle.text.specs.Fields.{fields, sized, digit}
 use Rattle.text.specs.Numbers.{leading_zero}
 use Rattle.text.specs.Columns.{Column, held, rule_of, said_as, said_by, values, Value, longest_line, first_broken, fault_by, fault_of}
 
@@ -30,8 +31,8 @@ more_digits few many h = record { keeps = keeps; says = λ s. refl }
   where
     keeps : (s : List ℕ) → rule_of (Natural few) s ≡ true → rule_of (Natural many) s ≡ true
     keeps s e =
-        let number = and_true (sized 1 few s && every digit s) (not (leading_zero s)) e in
-        let digits = and_true (sized 1 few s) (every digit s) number.0 in
+        let number = and_true (sized 1 few s && list_all digit s) (not (leading_zero s)) e in
+        let digits = and_true (sized 1 few s) (list_all digit s) number.0 in
         let long = and_true (leb 1 (length s)) (leb (length s) few) digits.0 in
         rw (long.0, le-leb (length s) many (omega (arith, leb-true (length s) few long.1, h)), digits.1) number.1
 
@@ -47,7 +48,7 @@ as_many (c ∷ cs) [] x = elim x [ ]
 as_many (c ∷ cs) (d ∷ ds) (eased one others) = omega (arith, as_many cs ds others)
 
 -- ---- the fault of a line, unless a field breaks its rule
-fields_stay : (n : ℕ) (cs ds : List Column) (fs : List (List ℕ)) → AllEased cs ds → ((k : ℕ) → first_broken n (map held cs) fs ≡ some (Broken k) → ⊥) → first_broken n (map held ds) fs ≡ first_broken n (map held cs) fs
+fields_stay : (n : ℕ) (cs ds : List Column) (fs : List (List ℕ)) → AllEased cs ds → ((k : ℕ) → first_broken n (map held cs) fs ≡ Some (Broken k) → ⊥) → first_broken n (map held ds) fs ≡ first_broken n (map held cs) fs
 fields_stay n [] [] fs none_left kept = refl
 fields_stay n [] (d ∷ ds) fs x kept = elim x [ ]
 fields_stay n (c ∷ cs) [] fs x kept = elim x [ ]
@@ -55,20 +56,20 @@ fields_stay n (c ∷ cs) (d ∷ ds) [] (eased one others) kept = refl
 fields_stay n (c ∷ cs) (d ∷ ds) (f ∷ fs) (eased one others) kept = by (rule_of (held c) f) refl (fields_stay (n + 1) cs ds fs others) kept
   where
     by : (t : Bool) → rule_of (held c) f ≡ t
-        → (((k : ℕ) → first_broken (n + 1) (map held cs) fs ≡ some (Broken k) → ⊥) → first_broken (n + 1) (map held ds) fs ≡ first_broken (n + 1) (map held cs) fs)
-        → ((k : ℕ) → (if t then first_broken (n + 1) (map held cs) fs otherwise some (Broken n)) ≡ some (Broken k) → ⊥)
-        → (if rule_of (held d) f then first_broken (n + 1) (map held ds) fs otherwise some (Broken n)) ≡ (if t then first_broken (n + 1) (map held cs) fs otherwise some (Broken n))
+        → (((k : ℕ) → first_broken (n + 1) (map held cs) fs ≡ Some (Broken k) → ⊥) → first_broken (n + 1) (map held ds) fs ≡ first_broken (n + 1) (map held cs) fs)
+        → ((k : ℕ) → (if t then first_broken (n + 1) (map held cs) fs otherwise Some (Broken n)) ≡ Some (Broken k) → ⊥)
+        → (if rule_of (held d) f then first_broken (n + 1) (map held ds) fs otherwise Some (Broken n)) ≡ (if t then first_broken (n + 1) (map held cs) fs otherwise Some (Broken n))
     by true e again kept = rw (one.keeps f e) (again kept)
     by false e again kept = absurd (kept n refl)
 
-pub fault-stays : (cs ds : List Column) → AllEased cs ds → (line : List ℕ) → ((k : ℕ) → fault_of cs line ≡ some (Broken k) → ⊥) → fault_of ds line ≡ fault_of cs line
+pub fault-stays : (cs ds : List Column) → AllEased cs ds → (line : List ℕ) → ((k : ℕ) → fault_of cs line ≡ Some (Broken k) → ⊥) → fault_of ds line ≡ fault_of cs line
 unfolding fault_of fault_by
 fault-stays cs ds all line = by (ltb longest_line (length line)) (eqb (length (fields line)) (length (map held cs))) refl
   where
     by : (long counted : Bool) → eqb (length (fields line)) (length (map held cs)) ≡ counted
-        → ((k : ℕ) → (if long then some TooLong otherwise if not counted then some WrongCount otherwise first_broken 1 (map held cs) (fields line)) ≡ some (Broken k) → ⊥)
-        → (if long then some TooLong otherwise if not (eqb (length (fields line)) (length (map held ds))) then some WrongCount otherwise first_broken 1 (map held ds) (fields line))
-        ≡ (if long then some TooLong otherwise if not counted then some WrongCount otherwise first_broken 1 (map held cs) (fields line))
+        → ((k : ℕ) → (if long then Some TooLong otherwise if not counted then Some WrongCount otherwise first_broken 1 (map held cs) (fields line)) ≡ Some (Broken k) → ⊥)
+        → (if long then Some TooLong otherwise if not (eqb (length (fields line)) (length (map held ds))) then Some WrongCount otherwise first_broken 1 (map held ds) (fields line))
+        ≡ (if long then Some TooLong otherwise if not counted then Some WrongCount otherwise first_broken 1 (map held cs) (fields line))
     by true counted e kept = refl
     by false false e kept = rw (sym (as_many cs ds all), e) refl
     by false true e kept = rw (sym (as_many cs ds all), e) (fields_stay 1 cs ds (fields line) all kept)

@@ -1,20 +1,21 @@
 -- A list's columns are a table. From it come the rules of a row, what the row says, and why a line is no row.
-use Rattle.std.specs.Prelude.{List, [], ◌∷◌, map, Bool, true, false, ◌&&◌, ◌||◌, not, ℕ, ◌+◌, ◌-◌, ltb, eqb, ℤ, pos, length, get_or}
-use Rattle.std.proofs.Math.Option.{Option, none, some}
+use Rattle.std.specs.Prelude.{List, [], ◌∷◌, map, Bool, ◌&&◌, ◌||◌, not, ℕ, ◌+◌, ◌-◌, ltb, eqb, ℤ, pos, length, get_or, Option, None, Some}
+use Rattle.std.specs.Option.{is_none}
 use Prim.Native.Char.{code}
 use Prim.Native.String.{String}
+use Rattle.std.specs.List.{list_all}
 use Rattle.whole.specs.Choice.{if◌then◌otherwise◌}
 use Rattle.whole.specs.Text.{ascii, name_of}
 use Rattle.text.specs.declared.columns.Holds.{Holds}
 use Rattle.text.specs.declared.columns.Holds.TheVariants.{Id, Name, Letter, Natural, Signed}
 use Rattle.text.specs.declared.columns.Fault.{Fault}
 use Rattle.text.specs.declared.columns.Fault.TheVariants.{TooLong, WrongCount, Broken}
-use Rattle.text.specs.Fields.{fields, sized, every, digit, capital, small, letter}
+use Rattle.text.specs.Fields.{fields, sized, digit, capital, small, letter}
 use Rattle.text.specs.Joined.{joined}
 use Rattle.text.specs.Numbers.{is_number, is_signed, value_of, signed_of}
 
--- What a column holds is a case of `Holds`, an enum of the code: an id, a name, a letter, a number from 0 up or a number of either sign, these two of at most so
--- many digits.
+-- What a column holds is a case of `Holds`, an enum of the code: an id, a name, a letter, a number from 0 up or a number of either sign, these two of at most
+-- so many digits.
 -- A column: the title that the header has for it, and what it holds.
 infix 70 ◌holds◌
 pub data Column : Type 0 where
@@ -42,18 +43,18 @@ longest_id = 16
 
 -- An id: letters, digits or hyphens of ASCII, 1 to 16 of them.
 abbrev pub is_id : List ℕ → Bool
-is_id s = sized 1 longest_id s && every id_byte s
+is_id s = sized 1 longest_id s && list_all id_byte s
 
 abbrev pub longest_name : ℕ
 longest_name = 8
 
 -- A name: 1 to 8 small letters.
 abbrev pub is_name : List ℕ → Bool
-is_name s = sized 1 longest_name s && every small s
+is_name s = sized 1 longest_name s && list_all small s
 
 -- A letter, capital or small.
 abbrev pub is_letter : List ℕ → Bool
-is_letter s = sized 1 1 s && every letter s
+is_letter s = sized 1 1 s && list_all letter s
 
 -- The rule of a field.
 abbrev pub rule_of : Holds → List ℕ → Bool
@@ -71,27 +72,23 @@ abbrev pub longest_line : ℕ
 longest_line = 200
 
 -- ---- why a line is no row
--- By what its columns hold. A fault is a case of `Fault`, an enum of the code: the line is too long, it has not as many fields as there are columns, or the field
--- with a number, counted from 1, breaks its rule.
+-- By what its columns hold. A fault is a case of `Fault`, an enum of the code: the line is too long, it has not as many fields as there are columns, or the
+-- field with a number, counted from 1, breaks its rule.
 -- The first field from the left that breaks its rule, the first of these fields being number n.
 abbrev pub first_broken : ℕ → List Holds → List (List ℕ) → Option Fault
-first_broken n [] fs = none
-first_broken n (what ∷ others) [] = none
-first_broken n (what ∷ others) (f ∷ fs) = if rule_of what f then first_broken (n + 1) others fs otherwise some (Broken n)
+first_broken n [] fs = None
+first_broken n (what ∷ others) [] = None
+first_broken n (what ∷ others) (f ∷ fs) = if rule_of what f then first_broken (n + 1) others fs otherwise Some (Broken n)
 
 -- The length is tested first, then the count of fields, then each field.
 unfoldable pub fault_by : List Holds → List ℕ → Option Fault
 fault_by columns line =
-    if ltb longest_line (length line) then some TooLong
-    otherwise if not (eqb (length (fields line)) (length columns)) then some WrongCount
+    if ltb longest_line (length line) then Some TooLong
+    otherwise if not (eqb (length (fields line)) (length columns)) then Some WrongCount
     otherwise first_broken 1 columns (fields line)
 
 unfoldable pub fault_of : List Column → List ℕ → Option Fault
 fault_of columns line = fault_by (map held columns) line
-
-abbrev pub is_none : Option Fault → Bool
-is_none none = true
-is_none (some fault) = false
 
 -- A line is a row where nothing is at fault.
 unfoldable pub well_formed : List Column → List ℕ → Bool

@@ -1,5 +1,5 @@
 -- The fields of a line: RFC 4180 without its quotes.
-use Rattle.std.specs.Prelude.{List, [], ◌∷◌, Bool, true, ◌&&◌, ◌||◌, ℕ, leb, eqb, length}
+use Rattle.std.specs.Prelude.{List, [], ◌∷◌, Bool, ◌&&◌, ◌||◌, ℕ, leb, eqb, length}
 use Prim.Native.Char.{code}
 use Rattle.whole.specs.Choice.{if◌then◌otherwise◌}
 
@@ -16,13 +16,9 @@ later (b ∷ s) = if eqb b (code ",") then field s ∷ later s otherwise later s
 abbrev pub fields : List ℕ → List (List ℕ)
 fields line = field line ∷ later line
 
--- What rules of fields are made of: so many bytes, and every byte of one kind.
+-- What rules of fields are made of: so many bytes, and every byte of one kind (`every` of `whole`).
 abbrev pub sized : ℕ → ℕ → List ℕ → Bool
 sized least most s = leb least (length s) && leb (length s) most
-
-abbrev pub every : (ℕ → Bool) → List ℕ → Bool
-every kind [] = true
-every kind (b ∷ s) = kind b && every kind s
 
 abbrev pub digit : ℕ → Bool
 digit b = leb (code "0") b && leb b (code "9")

@@ -1,8 +1,9 @@
 -- Numbers in fields: decimal digits without a leading zero, a minus where below 0.
 use Rattle.std.specs.Prelude.{List, [], ◌∷◌, Bool, false, ◌&&◌, not, ℕ, ◌+◌, ◌-◌, ◌*◌, eqb, ℤ, pos, ◌-ℤ◌}
 use Prim.Native.Char.{code}
+use Rattle.std.specs.List.{list_all}
 use Rattle.whole.specs.Choice.{if◌then◌otherwise◌}
-use Rattle.text.specs.Fields.{sized, every, digit}
+use Rattle.text.specs.Fields.{sized, digit}
 
 -- So many digits always fit 64 bits, with a sign too. No list has a column of more.
 abbrev pub most_digits : ℕ
@@ -16,7 +17,7 @@ leading_zero (b ∷ c ∷ s) = eqb b (code "0")
 
 -- A number from 0 up, of at most so many digits.
 abbrev pub is_number : ℕ → List ℕ → Bool
-is_number most s = sized 1 most s && every digit s && not (leading_zero s)
+is_number most s = sized 1 most s && list_all digit s && not (leading_zero s)
 
 -- The number n with digits after its own.
 abbrev pub digits_after : ℕ → List ℕ → ℕ

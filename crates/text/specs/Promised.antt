@@ -1,6 +1,5 @@
 -- What is promised of numbers: written and read back, and read and written back, they are the same; of the field that a fault names; and of how long a line is.
-use Rattle.std.specs.Prelude.{◌≡◌, true, false, List, map, ℕ, ◌-◌, ◌^◌, ◌<◌, ◌≤◌, length, ℤ, nat_abs}
-use Rattle.std.proofs.Math.Option.{none, some}
+use Rattle.std.specs.Prelude.{◌≡◌, true, false, List, map, ℕ, ◌-◌, ◌^◌, ◌<◌, ◌≤◌, length, ℤ, nat_abs, None, Some}
 use Rattle.text.specs.Fields.{fields}
 use Rattle.text.specs.declared.columns.Fault.TheVariants.{Broken}
 use Rattle.text.specs.Columns.{Column, held, column_at, longest_line, rule, field_at, first_broken, fault_of, longest_by_fields}
@@ -31,10 +30,10 @@ pub record FirstToBreak (columns : List Column) (line : List ℕ) (number : ℕ)
   pub before : (place : ℕ) → place < number - 1 → rule (column_at place columns) (field_at place line) ≡ true
 
 abbrev pub FirstNamed : Type 0
-FirstNamed = (columns : List Column) (line : List ℕ) (number : ℕ) → fault_of columns line ≡ some (Broken number) → FirstToBreak columns line number
+FirstNamed = (columns : List Column) (line : List ℕ) (number : ℕ) → fault_of columns line ≡ Some (Broken number) → FirstToBreak columns line number
 
 -- A line with a field for each column, each of which keeps its rule, is no longer than these may be, whatever the longest line is.
 abbrev pub FieldsShort : Type 0
 FieldsShort =
-    (columns : List Column) (line : List ℕ) → length (fields line) ≡ length columns → first_broken 1 (map held columns) (fields line) ≡ none
+    (columns : List Column) (line : List ℕ) → length (fields line) ≡ length columns → first_broken 1 (map held columns) (fields line) ≡ None
     → length line ≤ longest_by_fields columns

@@ -55,6 +55,7 @@ pub fn put_digits(out: &mut [u8], at: usize, n: u64, digits: usize)
     ensures { out.new ≡ over out.old at (decimal n) }
 {
     let mut rest = n;
+    // By what is left of the number and not by a count of its places: the first digit needs no division.
     let mut i = at + digits;
     while rest >= 10 {
         i -= 1;

@@ -11,11 +11,7 @@ pub fn put(out: &mut [u8], at: usize, s: &[u8])
     requires { at + length s.now ≤ length out.old }
     ensures { out.new ≡ over out.old at s.now }
 {
-    let mut i = 0;
-    while i < s.len() {
-        out[at + i] = s[i];
-        i += 1;
-    }
+    out[at..at + s.len()].copy_from_slice(s);
 }
 
 // Adds a text after the first `at` bytes, and answers where it ends.
@@ -42,12 +38,8 @@ pub fn add_signed(out: &mut [u8], at: usize, z: i64) -> usize
     requires { at + longest_number + 2 ≤ length out.old }
     ensures { Added out.old at (signed_decimal z ++ ascii ",") out.new result × (result ≤ at + longest_number + 2) }
 {
-    let size = whole::magnitude(z);
-    if whole::less(z, 0) {
-        let sign = add(out, at, b"-");
-        let end = add_number(out, sign, size);
-        return add(out, end, b",");
-    }
-    let end = add_number(out, at, size);
+    let sign: &[u8] = if z < 0 { b"-" } else { b"" };
+    let digits = add(out, at, sign);
+    let end = add_number(out, digits, z.unsigned_abs());
     add(out, end, b",")
 }

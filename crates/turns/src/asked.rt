@@ -10,38 +10,19 @@ pub enum Asked {
     Other,
 }
 
-fn is_word(text: &[u8], word: &[u8]) -> bool {
-    if text.len() != word.len() {
-        return false;
-    }
-    let mut i = 0;
-    while i < text.len() {
-        if text[i] != word[i] {
-            return false;
-        }
-        i += 1;
-    }
-    true
-}
-
 // Whether there is such an argument, be it text or not.
 fn has(env: &impl Env, i: usize) -> bool {
-    let mut nothing = [0u8; 0];
-    match env.arg(i, &mut nothing) {
-        Ok(_) => true,
-        Err(FillError::TooLong) => true,
-        Err(FillError::NotPresent) => false,
-    }
+    !matches!(env.arg(i, &mut []), Err(FillError::NotPresent))
 }
 
 fn asked_by(word: &[u8]) -> Asked {
-    if is_word(word, b"--help") {
-        return Asked::Page;
+    if word == b"--help".as_slice() {
+        Asked::Page
+    } else if word == b"--status".as_slice() {
+        Asked::ListAndStatus
+    } else {
+        Asked::Other
     }
-    if is_word(word, b"--status") {
-        return Asked::ListAndStatus;
-    }
-    Asked::Other
 }
 
 pub fn what_is_asked(env: &impl Env) -> Asked {

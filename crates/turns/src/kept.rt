@@ -1,59 +1,57 @@
-// A short text that is kept: the first bytes of an input, so that a wrong header can be shown, or the header of a list.
-ghost use Rattle.std.specs.Prelude.{◌≤◌};
+// A short text that is kept: the first bytes of an input, so that a wrong header can be shown, or the words of a failure.
+ghost use Rattle.std.specs.Prelude.{◌≡◌, ℕ, ◌≤◌, List, [], ◌++◌, take};
+ghost use Rattle.turns.specs.declared.kept.TheConstants.{MOST_KEPT};
 
-pub const MOST_KEPT: usize = 128;
+use std::fmt;
+use std::fmt::Write;
+use std::marker::Model;
 
-#[derive(Clone, Copy)]
+const MOST_KEPT: usize = 128;
+
+#[derive(Drop)]
 pub struct Kept {
-    pub bytes: [u8; MOST_KEPT],
-    pub count: usize,
+    bytes: [u8; MOST_KEPT],
+    count: usize,
 }
 
-pub fn nothing_yet() -> Kept {
-    Kept {
-        bytes: [0u8; MOST_KEPT],
-        count: 0,
-    }
+impl Model for Kept {
+    ghost Value = { List ℕ };
+
+    ghost view = { λ k. take k.count k.bytes };
+
+    ghost invariant = { λ k. k.count ≤ MOST_KEPT };
 }
 
 impl Kept {
-    // With the bytes that come next, as far as there is room.
-    pub fn and(self, chunk: &[u8]) -> Kept {
-        let mut kept = self;
-        let mut i = 0;
-        while i < chunk.len() {
-            let at = kept.count;
-            if at >= MOST_KEPT {
-                return kept;
-            }
-            kept.bytes[at] = chunk[i];
-            kept.count = at + 1;
-            i += 1;
-        }
-        kept
-    }
-
-    pub fn at(self, i: usize) -> u8 {
-        if i < MOST_KEPT {
-            return self.bytes[i];
-        }
-        0
-    }
-
-    // How many bytes are kept, whatever the count says.
-    pub fn length(self) -> usize
-        ensures { result ≤ 128 }
+    pub fn new() -> Self
+        ensures { result ≡ [] }
     {
-        if self.count <= MOST_KEPT {
-            return self.count;
+        Kept {
+            bytes: [0; MOST_KEPT],
+            count: 0,
         }
-        MOST_KEPT
     }
 
-    pub fn as_slice(&self) -> &[u8] {
-        if self.count <= MOST_KEPT {
-            return &self.bytes[..self.count];
-        }
-        &self.bytes
+    // Keeps the bytes that come next, as far as there is room.
+    pub fn keep(&mut self, next: &[u8])
+        ensures { self.new ≡ take MOST_KEPT (self.old ++ next.now) }
+    {
+        let count = self.count;
+        let n = (MOST_KEPT - count).min(next.len());
+        self.bytes[count..count + n].copy_from_slice(&next[..n]);
+        self.count = count + n;
+    }
+
+    pub fn as_slice(&self) -> &[u8]
+        ensures { result.now ≡ self.now }
+    {
+        &self.bytes[..self.count]
+    }
+}
+
+impl Write for Kept {
+    fn write_str(&mut self, text: &str) -> fmt::Result {
+        self.keep(text.as_bytes());
+        Ok(())
     }
 }

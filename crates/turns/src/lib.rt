@@ -3,20 +3,17 @@
 #![tactic(auto)]
 
 mod asked;
+mod columns;
 mod faults;
 mod fields;
 mod header;
 mod kept;
-mod people;
+mod program;
 mod reason;
-mod reasons;
 mod remarks;
 mod rows;
-mod status;
 mod turns;
-mod words;
+mod voice;
+mod why;
 
-pub use asked::{Asked, what_is_asked};
-pub use people::output_failed;
-pub use status::answer_and_say;
-pub use turns::answer;
+pub use program::run;

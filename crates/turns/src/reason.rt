@@ -1,38 +1,23 @@
 // Why reading or writing failed, in the system's words alone: `Display` of an error says its number too.
-ghost use Rattle.std.specs.Prelude.{◌≤◌, length};
-
-use crate::kept::{Kept, nothing_yet};
-use std::fmt::Write;
+use crate::kept::Kept;
+use std::fmt::{Display, Write};
 use std::{fmt, io};
 
 // What stands before the number.
-const BEFORE_NUMBER: &[u8] = b" (os error ";
+const BEFORE_NUMBER: &str = " (os error ";
 
-impl Write for Kept {
-    fn write_str(&mut self, text: &str) -> fmt::Result {
-        *self = self.and(text.as_bytes());
-        Ok(())
-    }
-}
+#[derive(Clone, Copy)]
+pub struct Reason<'a>(pub &'a io::Error);
 
-// Where the words end.
-fn words_in(text: &[u8]) -> usize
-    ensures { result ≤ length text.now }
-{
-    let mut i = 0;
-    while i < text.len() {
-        if text[i..].starts_with(BEFORE_NUMBER) {
-            return i;
+impl<'a> Display for Reason<'a> {
+    fn fmt<W: Write>(&self, f: &mut fmt::Formatter<W>) -> fmt::Result {
+        let why = self.0;
+        let mut said = Kept::new();
+        write!(said, "{why}")?;
+        let text = str::from_utf8(said.as_slice()).unwrap_or("");
+        match text.split_once(BEFORE_NUMBER) {
+            Some((words, _)) => f.write_str(words),
+            None => f.write_str(text),
         }
-        i += 1;
     }
-    i
-}
-
-pub fn reason_of(why: &io::Error) -> Kept {
-    let mut said = nothing_yet();
-    // A `Kept` takes all that it is given.
-    let _ = write!(said, "{why}");
-    let text = said.as_slice();
-    nothing_yet().and(&text[..words_in(text)])
 }

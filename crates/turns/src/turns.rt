@@ -1,227 +1,125 @@
 // Reading, answering and writing, turn by turn.
-ghost use Rattle.std.specs.Prelude.{◌≤◌, length};
-ghost use Rattle.list.specs.declared.kinds.Desk.{Desk};
-ghost use Rattle.list.specs.Kinds.{room};
-
 use crate::header::say_wrong;
-use crate::kept::{Kept, nothing_yet};
-use crate::people::{input_failed, output_failed};
-use crate::rows::{Counts, nothing_said};
-use list::{Desk, Stage, State};
+use crate::kept::Kept;
+use crate::rows::Counts;
+use crate::voice::Voice;
+use list::{Stage, State};
+use std::io;
 use std::io::{IsTerminal, Read};
-
-// What comes after a turn: more input, its end, or nothing, where the header was wrong or a call failed.
-#[derive(Clone, Copy)]
-pub enum Next {
-    Read,
-    Finish,
-    WrongHeader,
-    Stop,
-}
-
-// The state after a turn, the first bytes of the input, the lines so far, and what comes next.
-#[derive(Clone, Copy)]
-pub struct Turn {
-    pub state: State,
-    pub first: Kept,
-    pub counts: Counts,
-    pub next: Next,
-}
-
-fn after(state: State, first: Kept, counts: Counts, next: Next) -> Turn {
-    Turn {
-        state,
-        first,
-        counts,
-        next,
-    }
-}
-
-// Writes to standard output, and says so where that fails.
-fn wrote(output: &impl Print, people: &impl Print, desk: Desk, text: &[u8]) -> bool {
-    match output.write_all(text) {
-        Ok(()) => true,
-        Err(why) => {
-            output_failed(people, desk, &why);
-            false
-        }
-    }
-}
-
-fn next_of(stage: Stage) -> Next {
-    match stage {
-        Stage::Header(_) => Next::Read,
-        Stage::Rows(_) => Next::Read,
-        Stage::Stopped => Next::WrongHeader,
-    }
-}
-
-// The first bytes, with those of a chunk that comes before the header is known.
-fn first_with(first: Kept, stage: Stage, chunk: &[u8]) -> Kept {
-    match stage {
-        Stage::Header(_) => first.and(chunk),
-        Stage::Rows(_) => first,
-        Stage::Stopped => first,
-    }
-}
-
-// Feeds all of a chunk, and writes what is answered before anything is said of it.
-fn drain(
-    output: &impl Print,
-    people: &impl Print,
-    desk: Desk,
-    begun: State,
-    first: Kept,
-    so_far: Counts,
-    chunk: &[u8],
-    out: &mut [u8],
-) -> Turn
-    requires { room Desk.Bench ≤ length out.old }
-{
-    let mut state = begun;
-    let mut counts = so_far;
-    let mut at = 0;
-    while at < chunk.len() {
-        let fed = list::feed(state, &chunk[at..], out);
-        let n = fed.wrote;
-        let end = at + fed.used;
-        let later = fed.state;
-        if !wrote(output, people, desk, &out[..n]) {
-            return after(later, first, counts, Next::Stop);
-        }
-        let stage = later.stage;
-        let tally = fed.tally;
-        counts = counts.after_feeding(people, desk, state, &chunk[at..end], stage, tally);
-        state = later;
-        at = end;
-    }
-    let stage = state.stage;
-    after(state, first, counts, next_of(stage))
-}
-
-// Reads once, and answers what came.
-fn take_turn(
-    input: &mut impl Read,
-    output: &impl Print,
-    people: &impl Print,
-    desk: Desk,
-    state: State,
-    first: Kept,
-    counts: Counts,
-    buf: &mut [u8],
-    out: &mut [u8],
-) -> Turn
-    requires { room Desk.Bench ≤ length out.old }
-{
-    let n = match input.read(buf) {
-        Ok(n) => n,
-        Err(why) => {
-            input_failed(people, desk, &why);
-            return after(state, first, counts, Next::Stop);
-        }
-    };
-    if n == 0 {
-        return after(state, first, counts, Next::Finish);
-    }
-    let stage = state.stage;
-    let kept = first_with(first, stage, &buf[..n]);
-    drain(output, people, desk, state, kept, counts, &buf[..n], out)
-}
-
-// Whether the input that has ended had a right header; if not, that is said.
-fn had_header(people: &impl Print, desk: Desk, stage: Stage, first: Kept, code: u8) -> bool {
-    match stage {
-        Stage::Header(_) => {
-            if code == 0 {
-                return true;
-            }
-            say_wrong(people, desk, first);
-            false
-        }
-        Stage::Rows(_) => true,
-        Stage::Stopped => false,
-    }
-}
-
-// What is still due at the end of the input. Whether all was well.
-fn finish(
-    output: &impl Print,
-    people: &(impl Print + IsTerminal),
-    desk: Desk,
-    state: State,
-    first: Kept,
-    counts: Counts,
-    out: &mut [u8],
-) -> bool
-    requires { room Desk.Bench ≤ length out.old }
-{
-    let stage = state.stage;
-    let x = list::finish(state, out);
-    let n = x.wrote;
-    if !wrote(output, people, desk, &out[..n]) {
-        return false;
-    }
-    if !had_header(people, desk, stage, first, x.code) {
-        return false;
-    }
-    let all = counts.after_end(people, desk, state, x.code);
-    all.say_sum(people, desk);
-    true
-}
-
-// A proved loop has to end, and nothing says that the input does: turns are counted down, from a number that no input uses up.
-fn all(
-    input: &mut impl Read,
-    output: &impl Print,
-    people: &(impl Print + IsTerminal),
-    desk: Desk,
-    buf: &mut [u8],
-    out: &mut [u8],
-) -> bool
-    requires { room Desk.Bench ≤ length out.old }
-{
-    let mut state = list::start(desk);
-    let mut first = nothing_yet();
-    let mut counts = nothing_said();
-    let mut left = u64::MAX;
-    while left > 0 {
-        left -= 1;
-        let t = take_turn(input, output, people, desk, state, first, counts, buf, out);
-        let later = t.state;
-        state = later;
-        let kept = t.first;
-        first = kept;
-        let so_far = t.counts;
-        counts = so_far;
-        let next = t.next;
-        match next {
-            Next::Read => {}
-            Next::Finish => {
-                return finish(output, people, desk, state, first, counts, out);
-            }
-            Next::WrongHeader => {
-                say_wrong(people, desk, first);
-                return false;
-            }
-            Next::Stop => {
-                return false;
-            }
-        }
-    }
-    false
-}
 
 // So many bytes are read and answered at once.
 const AT_ONCE: usize = 65_536;
 
+// Why a list was not answered to its end. The last is for an input that has more turns than there are numbers to count them by.
+#[derive(Drop)]
+pub enum Failure {
+    WrongHeader,
+    Input(io::Error),
+    Output(io::Error),
+    Endless,
+}
+
+// A list that is being answered: where to, who speaks of it, where it stands, the first bytes of the input, and the lines so far.
+#[derive(Drop)]
+pub struct Run<'a, O, P> {
+    output: &'a O,
+    voice: &'a Voice<'a, P>,
+    state: State,
+    first: Kept,
+    counts: Counts,
+}
+
+impl<'a, O: Print, P: Print + IsTerminal> Run<'a, O, P> {
+    pub fn new(output: &'a O, voice: &'a Voice<'a, P>) -> Self {
+        Run {
+            output,
+            voice,
+            state: list::start(voice.desk),
+            first: Kept::new(),
+            counts: Counts::new(),
+        }
+    }
+
+    fn write(&self, text: &[u8]) -> Result<(), Failure> {
+        self.output
+            .write_all(text)
+            .map_err(|why| Failure::Output(why))
+    }
+
+    // Feeds all of a chunk, and writes what is answered before anything is said of it.
+    fn feed(&mut self, chunk: &[u8], out: &mut [u8; AT_ONCE]) -> Result<(), Failure> {
+        if matches!(self.state.stage, Stage::Header(_)) {
+            self.first.keep(chunk);
+        }
+        let mut rest = chunk;
+        while !rest.is_empty() {
+            let fed = list::feed(self.state, rest, out);
+            self.write(&out[..fed.wrote])?;
+            let (part, later) = rest.split_at(fed.used);
+            self.counts
+                .after_feeding(self.voice, &self.state, part, &fed);
+            self.state = fed.state;
+            rest = later;
+        }
+        if matches!(self.state.stage, Stage::Stopped) {
+            return Err(Failure::WrongHeader);
+        }
+        Ok(())
+    }
+
+    // What is still due at the end of the input.
+    fn finish(&mut self, out: &mut [u8; AT_ONCE]) -> Result<(), Failure> {
+        let x = list::finish(self.state, out);
+        self.write(&out[..x.wrote])?;
+        if matches!(self.state.stage, Stage::Header(_)) && x.code != 0 {
+            return Err(Failure::WrongHeader);
+        }
+        self.counts.after_end(self.voice, &self.state, x.code);
+        self.counts.say_sum(self.voice);
+        Ok(())
+    }
+
+    // Answers all of an input. A proved loop has to end, and nothing says that the input does: turns are counted, up to a number that no input uses up.
+    fn answer(
+        &mut self,
+        input: &mut impl Read,
+        buf: &mut [u8],
+        out: &mut [u8; AT_ONCE],
+    ) -> Result<(), Failure> {
+        for _ in 0..u64::MAX {
+            let n = input.read(buf).map_err(|why| Failure::Input(why))?;
+            if n == 0 {
+                return self.finish(out);
+            }
+            self.feed(&buf[..n], out)?;
+        }
+        Err(Failure::Endless)
+    }
+
+    fn say(&self, failure: Failure) {
+        match failure {
+            Failure::WrongHeader => say_wrong(self.voice, self.first.as_slice()),
+            Failure::Input(why) => self.voice.say_failed("standard input", &why),
+            Failure::Output(why) => self.voice.say_failed("standard output", &why),
+            Failure::Endless => {}
+        }
+    }
+}
+
 // Answers a list, input to output, and says to people what is to be said. Whether the header was right and all was read and written.
-pub fn answer(
+pub fn answer<P: Print + IsTerminal>(
     input: &mut impl Read,
     output: &impl Print,
-    people: &(impl Print + IsTerminal),
-    desk: Desk,
+    voice: &Voice<'_, P>,
 ) -> bool {
     let mut buf = [0u8; AT_ONCE];
     let mut out = [0u8; AT_ONCE];
-    all(input, output, people, desk, &mut buf, &mut out)
+    let mut run = Run::new(output, voice);
+    match run.answer(input, &mut buf, &mut out) {
+        Ok(()) => true,
+        Err(failure) => {
+            run.say(failure);
+            false
+        }
+    }
 }

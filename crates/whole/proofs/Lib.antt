@@ -6,6 +6,5 @@ pub mod Size
 pub mod Rounding
 pub mod Rising
 pub mod Largest
-pub mod Halving
 pub mod Machine
 pub mod Choice

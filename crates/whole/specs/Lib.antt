@@ -1,5 +1,4 @@
 -- The definitions of `whole`.
-pub mod Any
 pub mod Choice
 pub mod Floor
 pub mod Largest

@@ -1,35 +1,48 @@
-use mathlib.Core.Path.{◌≡◌}
 use Prim.Native.Nat.{◌≤◌}
 use native.Mathlib.Nat.{mul-le-mul}
 use native.Mathlib.Omega.{arith}
-use lib.IntN.{nat_abs, ◌-ℤ◌}
+use lib.IntN.{ℤ, nat_abs, ◌-ℤ◌}
+use mir.Syntax.{w64}
+use mir.Val.{SFits}
 use mir.Facts.{to_z-of_z}
-use Rattle.whole.proofs.Size.{abs_sub, difference-fits}
+use Rattle.whole.proofs.Size.{abs_sub, abs→fits, difference-fits}
 use Rattle.whole.proofs.Machine.{back}
 use Rattle.fit.specs.Fit.{◌·◌}
 use Rattle.fit.proofs.Sizes.{times_size}
 use Rattle.fit.proofs.coefficient_a.Goals as goal
 
-pub difference-linear-requires : goal.difference-linear-requires
-difference-linear-requires c =
-    let bx-size : nat_abs (c.args.b · c.args.p1.x) ≤ 7_500_000_001 = times_size c.args.b c.args.p1.x 3_000_000_000 2_500_000_000 c.requires.1 c.requires.3 in
-    let is-bx : c.times_x.result ≡ c.args.b · c.args.p1.x = rw (c.times_x.ensures, to_z-of_z c.ranges.b) in
-    rw (to_z-of_z c.ranges.q1, back _ c.times_x.type_inv, is-bx) (difference-fits c.args.q1 (c.args.b · c.args.p1.x) (omega (arith, c.requires.0, bx-size)))
+module _ (q1 b c x : ℤ) (p : nat_abs q1 ≤ 500_000_000) (q : nat_abs b ≤ 3_000_000_000) (r : nat_abs c ≤ 500_000_000) (h : nat_abs x ≤ 2_500_000_000) where
+  linear-size : nat_abs (q1 -ℤ b · x) ≤ 8_000_000_001
+  linear-size = omega (arith, abs_sub q1 (b · x), p, times_size b x 3_000_000_000 2_500_000_000 q h)
 
-pub times_x-requires-3 : goal.times_x-requires-3
-times_x-requires-3 c =
-    let cx-size : nat_abs (c.args.c · c.args.p1.x) ≤ 1_250_000_001 = times_size c.args.c c.args.p1.x 500_000_000 2_500_000_000 c.requires.2 c.requires.3 in
-    let is-cx : c.times_x-2.result ≡ c.args.c · c.args.p1.x = rw (c.times_x-2.ensures, to_z-of_z c.ranges.c) in
-    rw (back _ c.times_x-2.type_inv, is-cx) (omega (arith, mul-le-mul cx-size c.requires.3))
+  cx-size : nat_abs (c · x) ≤ 1_250_000_001
+  cx-size = times_size c x 500_000_000 2_500_000_000 r h
 
-pub difference-requires : goal.difference-requires
-difference-requires c =
-    let bx-size : nat_abs (c.args.b · c.args.p1.x) ≤ 7_500_000_001 = times_size c.args.b c.args.p1.x 3_000_000_000 2_500_000_000 c.requires.1 c.requires.3 in
-    let cx-size : nat_abs (c.args.c · c.args.p1.x) ≤ 1_250_000_001 = times_size c.args.c c.args.p1.x 500_000_000 2_500_000_000 c.requires.2 c.requires.3 in
-    let is-bx : c.times_x.result ≡ c.args.b · c.args.p1.x = rw (c.times_x.ensures, to_z-of_z c.ranges.b) in
-    let is-linear : c.difference-linear.result ≡ c.args.q1 -ℤ c.args.b · c.args.p1.x = rw (c.difference-linear.ensures, to_z-of_z c.ranges.q1, back _ c.times_x.type_inv, is-bx) in
-    let is-cx : c.times_x-2.result ≡ c.args.c · c.args.p1.x = rw (c.times_x-2.ensures, to_z-of_z c.ranges.c) in
-    let x = c.args.p1.x in
-    let cx = c.args.c · x in
-    rw (back _ c.difference-linear.type_inv, is-linear, back _ c.times_x-3.type_inv, c.times_x-3.ensures, back _ c.times_x-2.type_inv, is-cx)
-    (difference-fits (c.args.q1 -ℤ c.args.b · x) (cx · x) (omega (arith, abs_sub c.args.q1 (c.args.b · x), c.requires.0, bx-size, times_size cx x 1_250_000_001 2_500_000_000 cx-size c.requires.3)))
+  linear-fits : SFits w64 (q1 -ℤ b · x)
+  linear-fits = abs→fits (q1 -ℤ b · x) (omega (arith, linear-size))
+
+  fits : SFits w64 (q1 -ℤ b · x -ℤ c · x · x)
+  fits = difference-fits (q1 -ℤ b · x) (c · x · x) (omega (arith, linear-size, times_size (c · x) x 1_250_000_001 2_500_000_000 cx-size h))
+
+pub overflow_sub-result : goal.overflow_sub-result
+overflow_sub-result c =
+    let r = c.requires in
+    rw (to_z-of_z c.ranges.q1, back c.times.result c.times.type_inv, c.times.ensures, to_z-of_z c.ranges.b, to_z-of_z (abs→fits c.args.p1.x (omega (arith, r.3))))
+    (linear-fits c.args.q1 c.args.b c.args.c c.args.p1.x r.0 r.1 r.2 r.3)
+
+pub times-requires-3 : goal.times-requires-3
+times-requires-3 c =
+    let r = c.requires in
+    rw (back c.times-2.result c.times-2.type_inv, c.times-2.ensures, to_z-of_z c.ranges.c, to_z-of_z (abs→fits c.args.p1.x (omega (arith, r.3))))
+    (omega (arith, mul-le-mul (cx-size c.args.q1 c.args.b c.args.c c.args.p1.x r.0 r.1 r.2 r.3) r.3))
+
+pub overflow_sub-result-2 : goal.overflow_sub-result-2
+overflow_sub-result-2 c =
+    let r = c.requires in
+    rw (to_z-of_z c.ranges.q1, back c.times.result c.times.type_inv, c.times.ensures, to_z-of_z c.ranges.b, back c.times-3.result c.times-3.type_inv, c.times-3.ensures, back c.times-2.result c.times-2.type_inv, c.times-2.ensures, to_z-of_z c.ranges.c, to_z-of_z (abs→fits c.args.p1.x (omega (arith, r.3))), to_z-of_z (linear-fits c.args.q1 c.args.b c.args.c c.args.p1.x r.0 r.1 r.2 r.3))
+    (fits c.args.q1 c.args.b c.args.c c.args.p1.x r.0 r.1 r.2 r.3)
+
+pub returns : goal.returns
+returns c =
+    let r = c.requires in
+    rw (to_z-of_z c.ranges.q1, back c.times.result c.times.type_inv, c.times.ensures, to_z-of_z c.ranges.b, back c.times-3.result c.times-3.type_inv, c.times-3.ensures, back c.times-2.result c.times-2.type_inv, c.times-2.ensures, to_z-of_z c.ranges.c, to_z-of_z (abs→fits c.args.p1.x (omega (arith, r.3))), to_z-of_z (linear-fits c.args.q1 c.args.b c.args.c c.args.p1.x r.0 r.1 r.2 r.3), to_z-of_z (fits c.args.q1 c.args.b c.args.c c.args.p1.x r.0 r.1 r.2 r.3))

@@ -1,8 +1,7 @@
-use mir.Facts.{to_z-of_z}
-use Rattle.whole.proofs.Machine.{back}
+use borrow.Author.Rules.{rules}
 use Rattle.fit.specs.Fit.{◌÷◌}
 use Rattle.fit.proofs.over.Goals as goal
 
 pub returns : goal.returns
 unfolding ◌÷◌
-returns c = rw (back _ c.divide_down.type_inv, c.divide_down.ensures, back _ c.product.type_inv, c.product.ensures, to_z-of_z c.ranges.n, to_z-of_z c.ranges.x, back _ c.signed.type_inv, c.signed.ensures)
+returns c = search rules

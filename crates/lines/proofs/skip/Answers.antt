@@ -4,4 +4,4 @@ use native.Mathlib.Omega.{arith}
 use Rattle.lines.proofs.skip.Goals as goal
 
 pub loop-i-preserved : goal.loop-i-preserved
-loop-i-preserved c = no_feed_more c.loop-i.invariant 16 (omega (arith, c.loop-i.invariant.within, c.loop-i-test.true)) (sym c.feed_in_sixteen.ensures ∙ c.if-feed_in_sixteen.false)
+loop-i-preserved c = no_feed_more c.loop-i.invariant 16 (omega (arith, c.loop-i.invariant.within, c.loop-i-test.true)) (sym c.feed_in.ensures ∙ c.if-feed_in.false)

@@ -5,4 +5,4 @@ use Rattle.lines.proofs.skip_more.Goals as goal
 
 pub returns : goal.returns
 returns c = let skipped = c.skip-i in
-    no_feed_more skipped.ensures 8 (omega (arith, skipped.ensures.within, c.if-s-i-lt8.false)) (sym c.feed_in_eight.ensures ∙ c.if-feed_in_eight.false)
+    no_feed_more skipped.ensures 8 (omega (arith, skipped.ensures.within, c.if-s-i-lt8.false)) (sym c.feed_in.ensures ∙ c.if-feed_in.false)

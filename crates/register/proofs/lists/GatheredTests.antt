@@ -10,7 +10,7 @@ use borrow.Author.Tests.{eqb-true, eqb-false, eq-eqb, ne_eqb, lt-ltb, le-ltb}
 use lib.Dec.{eqb, ltb, eqb-zero-suc, eqb-suc-zero, eqb-suc-suc, leb-suc-suc}
 use lib.ListN.{length, get_or, drop, drop_of_length-le, length-append}
 use lib.Seq.{drop-cons}
-use Rattle.whole.specs.Any.{any}
+use Rattle.std.specs.List.{list_any}
 use Rattle.whole.specs.Choice.{if◌then◌otherwise◌}
 use Rattle.entry.specs.declared.entry.Entry.{Entry}
 use Rattle.examination.specs.declared.testing.Seen.{Seen}
@@ -34,28 +34,28 @@ or_pairs false b c d = or_swap b c d
 or_round : (a b c d : Bool) → (a || (b || (c || d))) ≡ ((d || b) || (a || c))
 or_round a b c d = simp (or_assoc, or_comm, or_swap)
 
-any-before : (test : Entry → Bool) (before : List Entry) (e : Entry) → any test (before ++ e ∷ []) ≡ (any test before || test e)
+any-before : (test : Entry → Bool) (before : List Entry) (e : Entry) → list_any test (before ++ e ∷ []) ≡ (list_any test before || test e)
 any-before test [] e = or-false (test e)
-any-before test (x ∷ before) e = rw (any-before test before e) (sym (or_assoc (test x) (any test before) (test e)))
+any-before test (x ∷ before) e = rw (any-before test before e) (sym (or_assoc (test x) (list_any test before) (test e)))
 
 -- ---- the first place of a number is another
 first-before : (before : List Entry) (e : Entry) (rest : List Entry) (n : ℕ) → has n e ≡ true
-    → not (eqb (first_at (before ++ e ∷ rest) n) (length before)) ≡ any (has n) before
+    → not (eqb (first_at (before ++ e ∷ rest) n) (length before)) ≡ list_any (has n) before
 first-before [] e rest n p = ap (λ (t : Bool). not (eqb (if t then 0 otherwise suc (first_at rest n)) 0)) p
 first-before (x ∷ before) e rest n p = by (has n x) (first-before before e rest n p)
   where
-    by : (t : Bool) → not (eqb (first_at (before ++ e ∷ rest) n) (length before)) ≡ any (has n) before
-        → not (eqb (if t then 0 otherwise suc (first_at (before ++ e ∷ rest) n)) (suc (length before))) ≡ (t || any (has n) before)
+    by : (t : Bool) → not (eqb (first_at (before ++ e ∷ rest) n) (length before)) ≡ list_any (has n) before
+        → not (eqb (if t then 0 otherwise suc (first_at (before ++ e ∷ rest) n)) (suc (length before))) ≡ (t || list_any (has n) before)
     by true more = ap not (eqb-zero-suc (length before))
     by false more = ap not (eqb-suc-suc (first_at (before ++ e ∷ rest) n) (length before)) ∙ more
 
 elsewhere : (before : List Entry) (e : Entry) (rest : List Entry)
-    → not (eqb (first_at (before ++ e ∷ rest) e.number.0) (length before)) ≡ any (has e.number.0) before
+    → not (eqb (first_at (before ++ e ∷ rest) e.number.0) (length before)) ≡ list_any (has e.number.0) before
 elsewhere before e rest = first-before before e rest e.number.0 (eq-eqb e.number.0 e.number.0 refl)
 
 -- ---- a thermometer is there twice where one of its places comes after another
 abbrev again : List Entry → Entry → Bool
-again before e = not (is_free e) && any (has e.number.0) before
+again before e = not (is_free e) && list_any (has e.number.0) before
 
 abbrev repeats : List Entry → List Entry → Bool
 repeats before [] = false
@@ -71,23 +71,23 @@ same_number m n = by (eqb m n) refl
 
 again_more : (before : List Entry) (e x : Entry) → again (before ++ e ∷ []) x ≡ (again before x || (not (is_free e) && has e.number.0 x))
 again_more before e x =
-    rw (any-before (has x.number.0) before e, and-or_distrib_left (not (is_free x)) (any (has x.number.0) before) (has x.number.0 e))
+    rw (any-before (has x.number.0) before e, and-or_distrib_left (not (is_free x)) (list_any (has x.number.0) before) (has x.number.0 e))
     (ap (λ (t : Bool). again before x || t) (same_number e.number.0 x.number.0))
 
 any_again : (before : List Entry) (e : Entry) (es : List Entry)
-    → any (again (before ++ e ∷ [])) es ≡ (any (again before) es || (not (is_free e) && any (has e.number.0) es))
+    → list_any (again (before ++ e ∷ [])) es ≡ (list_any (again before) es || (not (is_free e) && list_any (has e.number.0) es))
 any_again before e [] = sym (and-false (not (is_free e)))
 any_again before e (x ∷ es) =
-    rw (again_more before e x, any_again before e es, and-or_distrib_left (not (is_free e)) (has e.number.0 x) (any (has e.number.0) es))
-    (or_pairs (again before x) (not (is_free e) && has e.number.0 x) (any (again before) es) (not (is_free e) && any (has e.number.0) es))
+    rw (again_more before e x, any_again before e es, and-or_distrib_left (not (is_free e)) (has e.number.0 x) (list_any (has e.number.0) es))
+    (or_pairs (again before x) (not (is_free e) && has e.number.0 x) (list_any (again before) es) (not (is_free e) && list_any (has e.number.0) es))
 
-repeats_is : (before rest : List Entry) → repeats before rest ≡ (twice rest || any (again before) rest)
+repeats_is : (before rest : List Entry) → repeats before rest ≡ (twice rest || list_any (again before) rest)
 repeats_is before [] = refl
 repeats_is before (e ∷ es) =
     rw (repeats_is (before ++ e ∷ []) es, any_again before e es)
-    (or_round (again before e) (twice es) (any (again before) es) (not (is_free e) && any (has e.number.0) es))
+    (or_round (again before e) (twice es) (list_any (again before) es) (not (is_free e) && list_any (has e.number.0) es))
 
-none_again : (rest : List Entry) → any (again []) rest ≡ false
+none_again : (rest : List Entry) → list_any (again []) rest ≡ false
 none_again [] = refl
 none_again (e ∷ es) = rw (and-false (not (is_free e))) (none_again es)
 
@@ -102,29 +102,29 @@ module _
   where
     -- whether any passes a test
     any-noted : ((s : S) (e : Entry) (i : ℕ) → note (turn s e i) ≡ (note s || test e))
-        → (es : List Entry) (s : S) (i : ℕ) → note (run s i es) ≡ (note s || any test es)
+        → (es : List Entry) (s : S) (i : ℕ) → note (run s i es) ≡ (note s || list_any test es)
     any-noted each [] s i = ap note (ends s i) ∙ sym (or-false (note s))
     any-noted each (e ∷ es) s i =
         ap note (goes s i e es)
         ∙ any-noted each es (turn s e i) (i + 1)
-        ∙ ap (λ (t : Bool). t || any test es) (each s e i)
-        ∙ or_assoc (note s) (test e) (any test es)
+        ∙ ap (λ (t : Bool). t || list_any test es) (each s e i)
+        ∙ or_assoc (note s) (test e) (list_any test es)
 
     -- whether any passes a test or is there again
     repeats-noted : (all : List Entry)
         → ((s : S) (e : Entry) (i : ℕ) (t : Bool) → not (eqb (first_at all e.number.0) i) ≡ t
         → note (turn s e i) ≡ (note s || ((not (is_free e) && t) || test e)))
         → (before rest : List Entry) (s : S) (i : ℕ) → all ≡ before ++ rest → i ≡ length before
-        → note (run s i rest) ≡ (note s || (repeats before rest || any test rest))
+        → note (run s i rest) ≡ (note s || (repeats before rest || list_any test rest))
     repeats-noted all each before [] s i p q = ap note (ends s i) ∙ sym (or-false (note s))
     repeats-noted all each before (e ∷ es) s i p q =
-        let other : not (eqb (first_at all e.number.0) i) ≡ any (has e.number.0) before = rw (p, q) (elsewhere before e es) in
+        let other : not (eqb (first_at all e.number.0) i) ≡ list_any (has e.number.0) before = rw (p, q) (elsewhere before e es) in
         ap note (goes s i e es)
         ∙ repeats-noted all each (before ++ e ∷ []) es (turn s e i) (i + 1)
         (p ∙ sym (append_assoc before (e ∷ []) es)) (omega (arith, q, length-append before (e ∷ [])))
-        ∙ ap (λ (t : Bool). t || (repeats (before ++ e ∷ []) es || any test es)) (each s e i (any (has e.number.0) before) other)
-        ∙ or_assoc (note s) (again before e || test e) (repeats (before ++ e ∷ []) es || any test es)
-        ∙ ap (λ (t : Bool). note s || t) (or_pairs (again before e) (test e) (repeats (before ++ e ∷ []) es) (any test es))
+        ∙ ap (λ (t : Bool). t || (repeats (before ++ e ∷ []) es || list_any test es)) (each s e i (list_any (has e.number.0) before) other)
+        ∙ or_assoc (note s) (again before e || test e) (repeats (before ++ e ∷ []) es || list_any test es)
+        ∙ ap (λ (t : Bool). note s || t) (or_pairs (again before e) (test e) (repeats (before ++ e ∷ []) es) (list_any test es))
 
 -- ---- the tests of a table
 abbrev pub seen_from : List Entry → Seen → ℕ → List Entry → Seen
@@ -184,7 +184,7 @@ bad_from table =
     repeats-noted (λ (s : Seen). s.bad) (λ (s : Seen) (e : Entry) (i : ℕ). seen s e i (first_at table e.number.0)) (seen_from table)
     (λ (s : Seen) (i : ℕ). refl) (λ (s : Seen) (i : ℕ) (e : Entry) (es : List Entry). refl) holds_bad table
     (λ (s : Seen) (e : Entry) (i : ℕ). seen_bad s e i (first_at table e.number.0)) [] table nothing_seen 0 refl refl
-    ∙ ap (λ (t : Bool). t || any holds_bad table) (repeats_twice table)
+    ∙ ap (λ (t : Bool). t || list_any holds_bad table) (repeats_twice table)
 
 pub seen_all : (table : List Entry) → ((seen_from table nothing_seen 0 table).bad ≡ bad_table table) × ((seen_from table nothing_seen 0 table).places ≡ places table)
 seen_all table = (bad_from table, omega (arith, places_from table nothing_seen 0 table))
@@ -236,7 +236,7 @@ module _ (table list : List Entry) where
 
   -- a note of what any entry of the list is
   any_of : (note : Noted → Bool) (test : Entry → Bool) → ((s : Noted) (e : Entry) (k : ℕ) → note (turn s e k) ≡ (note s || test e))
-      → (es : List Entry) (s : Noted) (k : ℕ) → note (noted_from table list s k es) ≡ (note s || any test es)
+      → (es : List Entry) (s : Noted) (k : ℕ) → note (noted_from table list s k es) ≡ (note s || list_any test es)
   any_of note test =
       any-noted note turn (noted_from table list)
       (λ (s : Noted) (k : ℕ). refl) (λ (s : Noted) (k : ℕ) (e : Entry) (es : List Entry). refl) test
@@ -247,8 +247,8 @@ module _ (table list : List Entry) where
       (λ (s : Noted) (k : ℕ). refl) (λ (s : Noted) (k : ℕ) (e : Entry) (es : List Entry). refl) is_free list
       (λ (s : Noted) (e : Entry) (k : ℕ) (t : Bool) (p : not (eqb (first_at list e.number.0) k) ≡ t). rw p (unfit_once s.unfit (is_free e) t))
       [] list (nothing_noted left) 0 refl refl
-      ∙ ap (λ (t : Bool). t || any is_free list) (repeats_twice list)
-      ∙ or_comm (twice list) (any is_free list)
+      ∙ ap (λ (t : Bool). t || list_any is_free list) (repeats_twice list)
+      ∙ or_comm (twice list) (list_any is_free list)
 
   pub noted-all : (left : ℕ) → Tested table list left (noted_from table list (nothing_noted left) 0 list)
   noted-all left =

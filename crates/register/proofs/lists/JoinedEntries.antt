@@ -12,19 +12,17 @@ use Rattle.whole.specs.Choice.{if◌then◌otherwise◌}
 use Rattle.whole.proofs.Choice.{and_true}
 use Rattle.whole.proofs.Machine.{lt_no, no_lt}
 use Rattle.whole.proofs.Parts.{ints}
+use Rattle.std.specs.Ordering.{int_eq}
+use Rattle.std.proofs.lemmas.Bool.Decides.{Decides-int_eq}
 use Rattle.entry.specs.declared.entry.Entry.{Entry}
 use Rattle.deviation.specs.declared.places.Places.{Places}
 use Rattle.certificate.specs.declared.soundness.Given.{Given}
 use Rattle.entry.specs.declared.entry.Serial.{Serial}
-use Rattle.entry.specs.Entry.{alike, same_places, same, is_bad, is_free, free, clash, higher, merged, joined}
+use Rattle.entry.specs.Entry.{same_places, same, is_bad, is_free, free, clash, higher, merged, joined}
 
 -- ---- a certificate is the same as itself only
-alike_eq : (x y : ℤ) → alike x y ≡ true → x ≡ y
-alike_eq x y e =
-    let (p, q) = and_true (not (lt_z x y)) (not (lt_z y x)) e in
-    let h = lt_no {a = x} {b = y} refl (not-true (lt_z x y) p) in
-    let k = lt_no {a = y} {b = x} refl (not-true (lt_z y x) q) in
-    omega (ints, h, k)
+eq_of : (x y : ℤ) → int_eq x y ≡ true → x ≡ y
+eq_of x y e = (Decides-int_eq x y).0 e
 
 all_five : (a b c d e : Bool) → (a && b && c && d && e) ≡ true → (a ≡ true) × (b ≡ true) × (c ≡ true) × (d ≡ true) × (e ≡ true)
 all_five a b c d e h =
@@ -37,12 +35,12 @@ all_five a b c d e h =
 same_places_eq : (p q : Places) → same_places p q ≡ true → p ≡ q
 same_places_eq p q e =
     let (a, b, c, d, wal) =
-    all_five (alike p.a q.a) (alike p.b q.b) (alike p.c q.c) (alike p.d q.d) (eqb p.wal.0 q.wal.0) e in
+    all_five (int_eq p.a q.a) (int_eq p.b q.b) (int_eq p.c q.c) (int_eq p.d q.d) (eqb p.wal.0 q.wal.0) e in
     λ i. record {
-      a = alike_eq p.a q.a a i;
-      b = alike_eq p.b q.b b i;
-      c = alike_eq p.c q.c c i;
-      d = alike_eq p.d q.d d i;
+      a = eq_of p.a q.a a i;
+      b = eq_of p.b q.b b i;
+      c = eq_of p.c q.c c i;
+      d = eq_of p.d q.d d i;
       wal = record { 0 = eqb-true p.wal.0 q.wal.0 wal i };
     }
 
@@ -51,15 +49,13 @@ same_eq k l e =
     let (law, places) = and_true (eqb k.law.0 l.law.0) (same_places k.places l.places) e in
     λ i. record { law = record { 0 = eqb-true k.law.0 l.law.0 law i }; places = same_places_eq k.places l.places places i }
 
-alike_self : (x : ℤ) → alike x x ≡ true
-alike_self x =
-    let e : lt_z x x ≡ false = no_lt {a = x} {b = x} (omega ints) in
-    rw e
+eq_self : (x : ℤ) → int_eq x x ≡ true
+eq_self x = (Decides-int_eq x x).1 refl
 
 same_self : (k : Given) → same k k ≡ true
 same_self k =
     let p = k.places in
-    rw (eq-eqb k.law.0 k.law.0 refl, alike_self p.a, alike_self p.b, alike_self p.c, alike_self p.d, eq-eqb p.wal.0 p.wal.0 refl)
+    rw (eq-eqb k.law.0 k.law.0 refl, eq_self p.a, eq_self p.b, eq_self p.c, eq_self p.d, eq-eqb p.wal.0 p.wal.0 refl)
 
 -- ---- serials
 pub higher_is : (x y : Serial) → (higher x y).0 ≡ max x.0 y.0

@@ -1,14 +1,21 @@
 -- Facts of the place of a number in a table, as a search through it and an import into it use them.
 use mathlib.Core.Path.{◌≡◌, refl, sym, ◌∙◌, ap}
-use mathlib.Core.Bool.{Bool, true, false}
+use mathlib.Core.Bool.{Bool, true, false, not}
 use mathlib.Core.List.{List, [], ◌∷◌}
 use Prim.Native.Nat.{ℕ, suc, ◌+◌, ◌<◌, ◌≤◌}
 use native.Mathlib.Numerals.{add-one}
 use native.Mathlib.Omega.{arith}
-use lib.Dec.{eqb}
+use borrow.Author.Tests.{ltb-false}
+use lib.Dec.{eqb, ltb}
 use lib.ListN.{length, get_or, drop, set, drop_of_length-le, get_or-eq_default}
 use lib.Seq.{drop-cons, set_out}
 use Rattle.whole.specs.Choice.{if◌then◌otherwise◌}
+use Rattle.std.proofs.Common.{cond}
+use Rattle.std.specs.Prelude.{Some, None}
+use Rattle.std.specs.Option.{unwrap_or}
+use Rattle.std.proofs.lemmas.List.Sums.{prefix_len-le-length}
+use Rattle.std.specs.List.{position, position_or_len}
+use Rattle.std.proofs.lemmas.List.Recursion.{is_position_or_len}
 use Rattle.entry.specs.declared.entry.Entry.{Entry}
 use Rattle.entry.specs.Entry.{free}
 use Rattle.register.specs.Table.{has, first_at, entry_of, put}
@@ -35,28 +42,21 @@ set_at_first (e ∷ es) n x = by (has n e) (set_at_first es n x)
     by false rest = ap (λ (members : List Entry). e ∷ members) rest
 
 module _ (table : List Entry) (n : ℕ) where
-  -- i places are passed, and none of them has the number
-  abbrev pub NoneBefore : ℕ → Type 0
-  NoneBefore i = first_at table n ≡ i + first_at (drop i table) n
+  -- as the library says it
+  pub place-is : first_at table n ≡ position_or_len (has n) table
+  place-is = is_position_or_len (λ (es : List Entry). first_at es n) (has n) refl (λ e es. by (has n e) (first_at es n)) table
+    where
+      by : (t : Bool) (later : ℕ) → (if t then 0 otherwise suc later) ≡ cond t 0 (1 + later)
+      by true later = refl
+      by false later = omega arith
 
-  pub none-before-start : NoneBefore 0
-  none-before-start = omega arith
-
-  -- where the search goes on from a place
-  first-at-step : (i : ℕ) (t : Bool) → i < length table → eqb (get_or table i free).number.0 n ≡ t
-      → first_at (drop i table) n ≡ (if t then 0 otherwise suc (first_at (drop (suc i) table) n))
-  first-at-step i t l e =
-      ap (λ (rest : List Entry). first_at rest n) (drop-cons table i free l)
-      ∙ ap (λ (hit : Bool). if hit then 0 otherwise suc (first_at (drop (suc i) table) n)) e
-
-  pub first-at-match : (i : ℕ) → NoneBefore i → i < length table → eqb (get_or table i free).number.0 n ≡ true → i ≡ first_at table n
-  first-at-match i p l e = omega (arith, p, first-at-step i true l e)
-
-  pub none-before-next : (i : ℕ) → NoneBefore i → i < length table → eqb (get_or table i free).number.0 n ≡ false → NoneBefore (i + 1)
-  none-before-next i p l e = rw (add-one i) (omega (arith, p, first-at-step i false l e))
-
-  pub first-at-end : (i : ℕ) → NoneBefore i → length table ≤ i → i ≡ first_at table n
-  first-at-end i p l = omega (arith, p, ap (λ (rest : List Entry). first_at rest n) (drop_of_length-le table l))
+  pub place-found : unwrap_or (position (has n) table) (length table) ≡ first_at table n
+  place-found = by (ltb (position_or_len (has n) table) (length table)) refl ∙ sym place-is
+    where
+      by : (t : Bool) → ltb (position_or_len (has n) table) (length table) ≡ t
+          → unwrap_or (cond t (Some (position_or_len (has n) table)) None) (length table) ≡ position_or_len (has n) table
+      by true e = refl
+      by false e = omega (arith, ltb-false _ _ e, prefix_len-le-length (λ (e : Entry). not (has n e)) table)
 
   pub entry-at-place : (i : ℕ) → i ≡ first_at table n → i < length table → get_or table i free ≡ entry_of table n
   entry-at-place i p l = ap (λ (at : ℕ). get_or table at free) p ∙ entry_at_first table n

@@ -6,7 +6,7 @@ use Prim.Native.Nat.{ℕ, suc}
 use native.Mathlib.Omega.{arith}
 use borrow.Author.Tests.{eqb-true, not-false, ltb-false}
 use lib.Dec.{eqb}
-use Rattle.whole.specs.Any.{any}
+use Rattle.std.specs.List.{list_any}
 use Rattle.whole.specs.Choice.{if◌then◌otherwise◌}
 use Rattle.whole.proofs.Any.{or_false}
 use Rattle.entry.specs.declared.entry.Entry.{Entry}
@@ -30,23 +30,23 @@ good_fault k h = eqb-true (fault k) 0 (not-false (eqb (fault k) 0) h)
 -- ---- a table that is not bad
 pub good_table_apart : (table : List Entry) → bad_table table ≡ false → twice table ≡ false
 unfolding bad_table
-good_table_apart table h = (or_false (twice table) (any bad table) h).0
+good_table_apart table h = (or_false (twice table) (list_any bad table) h).0
 
-pub good_table_sound : (table : List Entry) → bad_table table ≡ false → any bad table ≡ false
+pub good_table_sound : (table : List Entry) → bad_table table ≡ false → list_any bad table ≡ false
 unfolding bad_table
-good_table_sound table h = (or_false (twice table) (any bad table) h).1
+good_table_sound table h = (or_false (twice table) (list_any bad table) h).1
 
-pub table_not_bad : (table : List Entry) → twice table ≡ false → any bad table ≡ false → bad_table table ≡ false
+pub table_not_bad : (table : List Entry) → twice table ≡ false → list_any bad table ≡ false → bad_table table ≡ false
 unfolding bad_table
 table_not_bad table p q = rw (p, q)
 
 -- ---- imports
 pub record Passed (table list : List Entry) : Type 0 where
   pub good_table : bad_table table ≡ false
-  pub all_known : any unknown list ≡ false
-  pub all_sound : any unsound list ≡ false
+  pub all_known : list_any unknown list ≡ false
+  pub all_sound : list_any unsound list ≡ false
   pub all_fit : unfit list ≡ false
-  pub no_clashes : any (clashing table) list ≡ false
+  pub no_clashes : list_any (clashing table) list ≡ false
   pub all_find_room : short table list ≡ false
 
 -- a test whose number is not the answer has not fired
@@ -59,10 +59,10 @@ module _ (table list : List Entry) where
   unfolding import_refusal
   import-passed e =
       let (a, e) = test_not_fired (bad_table table) 22 _ e in
-      let (b, e) = test_not_fired (any unknown list) 2 _ e in
-      let (c, e) = test_not_fired (any unsound list) 6 _ e in
+      let (b, e) = test_not_fired (list_any unknown list) 2 _ e in
+      let (c, e) = test_not_fired (list_any unsound list) 6 _ e in
       let (d, e) = test_not_fired (unfit list) 16 _ e in
-      let (f, e) = test_not_fired (any (clashing table) list) 17 _ e in
+      let (f, e) = test_not_fired (list_any (clashing table) list) 17 _ e in
       let (g, e) = test_not_fired (short table list) 18 _ e in
       record { good_table = a; all_known = b; all_sound = c; all_fit = d; no_clashes = f; all_find_room = g }
 
@@ -72,7 +72,7 @@ module _ (table list : List Entry) where
 
   pub import-ready : Passed table list → Ready table list
   import-ready p =
-      let (named, distinct) = or_false (any is_free list) (twice list) p.all_fit in
+      let (named, distinct) = or_false (list_any is_free list) (twice list) p.all_fit in
       record {
         apart = good_table_apart table p.good_table;
         kept_good = good_table_sound table p.good_table;

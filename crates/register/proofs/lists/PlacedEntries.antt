@@ -6,7 +6,7 @@ use Prim.Native.Nat.{ℕ, suc, ◌<◌, ◌≤◌}
 use native.Mathlib.Omega.{arith}
 use borrow.Author.Tests.{eqb-true, eq-eqb}
 use lib.Dec.{eqb}
-use Rattle.whole.specs.Any.{any}
+use Rattle.std.specs.List.{list_any}
 use Rattle.whole.specs.Choice.{if◌then◌otherwise◌}
 use Rattle.whole.proofs.Any.{or_false}
 use Rattle.entry.specs.declared.entry.Entry.{Entry}
@@ -87,14 +87,14 @@ module _ (table : List Entry) (e : Entry) (named : is_free e ≡ false) where
       by (missing h k) = ap twice (as-new h) ∙ twice-new e named table k a
       by (there m h) = ap twice (placed-at-own h) ∙ twice-put e.number.0 (merged held e) h table ∙ a
 
-  bad-placed : any bad table ≡ false → faulty e ≡ false → any bad (placed table e) ≡ false
+  bad-placed : list_any bad table ≡ false → faulty e ≡ false → list_any bad (placed table e) ≡ false
   bad-placed a f = by (sought table e.number.0)
     where
-      by : Sought table e.number.0 held → any bad (placed table e) ≡ false
-      by (missing h k) = ap (any bad) (as-new h) ∙ any-put bad table 0 e a (rw named f)
+      by : Sought table e.number.0 held → list_any bad (placed table e) ≡ false
+      by (missing h k) = ap (list_any bad) (as-new h) ∙ any-put bad table 0 e a (rw named f)
       by (there m h) =
           let g : faulty held ≡ false = rw (named-too h) at (member_fails bad table held a m) in
-          ap (any bad) (placed-at-own h) ∙ any-put bad table e.number.0 (merged held e) a (rw (named-too h) (merged_good held e g f))
+          ap (list_any bad) (placed-at-own h) ∙ any-put bad table e.number.0 (merged held e) a (rw (named-too h) (merged_good held e g f))
 
 -- ---- a list of entries
 -- a thermometer that no list names keeps its entry
@@ -108,20 +108,20 @@ joined-none table n z = by (sought table n)
 -- a table that is not bad, and a list of good certificates, of named thermometers once each, for whose new ones there is room
 pub record Ready (table list : List Entry) : Type 0 where
   pub apart : twice table ≡ false
-  pub kept_good : any bad table ≡ false
-  pub good : any faulty list ≡ false
-  pub named : any is_free list ≡ false
+  pub kept_good : list_any bad table ≡ false
+  pub good : list_any faulty list ≡ false
+  pub named : list_any is_free list ≡ false
   pub distinct : twice list ≡ false
   pub room : count (is_new table) list ≤ places table
 
 module _ (table : List Entry) (e : Entry) (es : List Entry) (r : Ready table (e ∷ es)) where
   named-first : is_free e ≡ false
-  named-first = (or_false (is_free e) (any is_free es) r.named).0
+  named-first = (or_false (is_free e) (list_any is_free es) r.named).0
 
-  named-rest : any is_free es ≡ false
-  named-rest = (or_false (is_free e) (any is_free es) r.named).1
+  named-rest : list_any is_free es ≡ false
+  named-rest = (or_false (is_free e) (list_any is_free es) r.named).1
 
-  others-rest : any (has e.number.0) es ≡ false
+  others-rest : list_any (has e.number.0) es ≡ false
   others-rest = not_twice_others e es r.distinct named-first
 
   -- the rest is as new as it was
@@ -137,8 +137,8 @@ module _ (table : List Entry) (e : Entry) (es : List Entry) (r : Ready table (e 
   ready-next =
       record {
         apart = twice-placed table e named-first r.apart;
-        kept_good = bad-placed table e named-first r.kept_good (or_false (faulty e) (any faulty es) r.good).0;
-        good = (or_false (faulty e) (any faulty es) r.good).1;
+        kept_good = bad-placed table e named-first r.kept_good (or_false (faulty e) (list_any faulty es) r.good).0;
+        good = (or_false (faulty e) (list_any faulty es) r.good).1;
         named = named-rest;
         distinct = not_twice_rest e es r.distinct;
         room = rw as-new-as (room_after table e named-first (count (is_new table) es) r.room);
@@ -157,7 +157,7 @@ module _ (table : List Entry) (e : Entry) (es : List Entry) (r : Ready table (e 
       by false h = ap (λ (x : Entry). joined x (entry_of es n)) (entry_kept table e named-first n z h)
       by true h =
           let q : e.number.0 ≡ n = eqb-true e.number.0 n h in
-          let f : entry_of es n ≡ free = entry_of_none es n (subst (λ (m : ℕ). any (has m) es ≡ false) q others-rest) in
+          let f : entry_of es n ≡ free = entry_of_none es n (subst (λ (m : ℕ). list_any (has m) es ≡ false) q others-rest) in
           ap (joined (entry_of (placed table e) n)) f
           ∙ joined-none (placed table e) n z
           ∙ subst (λ (m : ℕ). entry_of (placed table e) m ≡ joined (entry_of table m) e) q (entry-placed table e named-first new-room)

@@ -5,7 +5,7 @@ use mathlib.Core.List.{List}
 use Prim.Native.Nat.{ℕ}
 use borrow.Author.Tests.{eqb-true, eq-eqb}
 use lib.Dec.{eqb}
-use Rattle.whole.specs.Any.{any}
+use Rattle.std.specs.List.{list_any}
 use Rattle.entry.specs.declared.entry.Entry.{Entry}
 use Rattle.entry.specs.declared.entry.Serial.{Serial}
 use Rattle.entry.specs.Entry.{raised}
@@ -34,7 +34,7 @@ module _ (table : List Entry) (n : ℕ) (serial : Serial) where
           let a : withdrawal_refusal table n ≡ 0 = eqb-true (withdrawal_refusal table n) 0 e in
           let (m, k) = entry_there table n (withdrawal_passed table n a).1 in
           let x : Entry = raised (entry_of table n) serial in
-          let g : any bad table ≡ false = good_table_sound table h in
+          let g : list_any bad table ≡ false = good_table_sound table h in
           ap bad_table (withdrawal-made a)
           ∙ table_not_bad (put table n x) (twice-put n x k table ∙ good_table_apart table h) (any-put bad table n x g (member_fails bad table (entry_of table n) g m))
 

@@ -1,6 +1,10 @@
 use mathlib.Core.Path.{◌≡◌}
-use Prim.Native.Nat.{ℕ, ◌+◌, ◌*◌, ◌/◌, ◌%◌, ◌^◌}
+use Prim.Native.Nat.{ℕ, ◌+◌, ◌*◌, ◌/◌, ◌%◌, ◌≤◌, ◌^◌}
+use native.Mathlib.Nat.{mul-le-mul}
 use native.Mathlib.Omega.{arith}
+use lib.IntN.{pos, neg_ℤ}
+use Rattle.whole.proofs.Parts.{ints, add_parts}
+use Rattle.curve.specs.Curve.{exact}
 use Rattle.curve.proofs.Sides.{fallen, exact_down}
 use Rattle.curve.proofs.comparison.fallen.Goals as goal
 
@@ -8,11 +12,16 @@ use Rattle.curve.proofs.comparison.fallen.Goals as goal
 joined : (m hi lo : ℕ) → hi * 10 ^ 12 + lo ≡ 4_183 * (m * (m + 1_000_000)) * m * m → (390_830_000_000 * m + 5_775 * (m * m) + hi / 10) * 10 ^ 13 + (hi % 10 * 10 ^ 12 + lo) ≡ fallen m
 joined m hi lo e = omega arith
 
-rejoin : (x : ℕ) → x / 10 ^ 12 * 10 ^ 12 + x % 10 ^ 12 ≡ x
-rejoin x = omega arith
+-- which is at most 1
+fallen_under : (m : ℕ) → m ≤ 2_000_000 → fallen m ≤ 10 ^ 31
+fallen_under m h =
+    omega (arith, mul-le-mul h h, mul-le-mul {n₁ = m + 1_000_000} {n₂ = 3_000_000} (omega arith) (mul-le-mul (mul-le-mul h h) h))
 
 pub returns : goal.returns
 returns c =
-    let once : c.times.result.hi * 10 ^ 12 + c.times.result.lo ≡ 4_183 * (c.args.m * (c.args.m + 1_000_000)) * c.args.m = rw rejoin at c.times.ensures.0 in
-    let twice : c.times-q.result.hi * 10 ^ 12 + c.times-q.result.lo ≡ 4_183 * (c.args.m * (c.args.m + 1_000_000)) * c.args.m * c.args.m = rw once at c.times-q.ensures.0 in
-    (rw (joined c.args.m c.times-q.result.hi c.times-q.result.lo twice) (exact_down c.args.m), omega (arith, c.times-q.ensures.1))
+    let m = c.args.m in
+    let once : c.times.result.hi * 10 ^ 12 + c.times.result.lo ≡ 4_183 * (m * (m + 1_000_000)) * m = rw c.new.ensures at c.times.ensures in
+    let twice : c.times-q.result.hi * 10 ^ 12 + c.times-q.result.lo ≡ 4_183 * (m * (m + 1_000_000)) * m * m = rw once at c.times-q.ensures in
+    let under = fallen_under m c.requires in
+    rw (joined m c.times-q.result.hi c.times-q.result.lo twice)
+    (omega (ints, under, exact_down m, add_parts (exact (neg_ℤ (pos m))) (pos (fallen m))), under)

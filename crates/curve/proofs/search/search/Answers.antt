@@ -1,30 +1,23 @@
-use mathlib.Core.Path.{◌≡◌}
-use Prim.Native.Nat.{ℕ, ◌+◌}
-use native.Mathlib.Numerals.{add-one}
+use mathlib.Core.Path.{◌≡◌, refl}
+use mathlib.Core.Bool.{true, false}
+use Prim.Native.Nat.{◌+◌}
 use native.Mathlib.Omega.{arith}
-use lib.IntN.{ℤ}
-use lib.Signed.{◌<ℤ◌}
-use Rattle.whole.specs.Largest.{Largest}
+use borrow.Author.Rules.{rules}
+use lib.Signed.{le_z, ◌<ℤ◌}
+use Rattle.whole.proofs.Machine.{le_yes, le_no}
 use Rattle.whole.proofs.Largest.{largest-by-next}
-use Rattle.whole.proofs.Halving.{Between, neighbours}
-use Rattle.curve.specs.Curve.{exact, first, last}
+use Rattle.curve.specs.Curve.{exact, units, first, last}
 use Rattle.curve.specs.Places.{step_at}
 use Rattle.curve.proofs.Rising.{one_up}
 use Rattle.curve.proofs.Places.{from_first, to_last, next_place}
 use Rattle.curve.proofs.search.search.Goals as goal
 
--- the exact ratio at a place
-abbrev at : ℕ → ℤ
-at place = exact (step_at place)
-
 -- neighbouring places: the lower one has the largest step
-found : (value : ℤ) (low high : ℕ) → Between at 10_500_001 value low high 0 → Largest exact first last value (step_at low)
-found value low high b =
-    let e = neighbours b in
-    let h : value <ℤ exact (step_at (low + 1)) = rw (e, ← add-one low) at b.above in
-    largest-by-next exact first last one_up value (step_at low) (from_first low) (to_last low (omega (arith, b.within))) b.not_above (rw (next_place low) h)
-
 pub returns : goal.returns
 returns c =
-    let z : c.loop-left.left ≡ 0 = omega arith in
-    found _ _ _ (rw z at c.loop-left.invariant)
+    let place = c.last_passing.result in
+    let passed : true ≡ le_z (exact (step_at place)) (units c.args.w) = search rules in
+    let failed : false ≡ le_z (exact (step_at (place + 1))) (units c.args.w) = search rules in
+    let after : units c.args.w <ℤ exact (step_at (place + 1)) = le_no failed refl in
+    largest-by-next exact first last one_up (units c.args.w) (step_at place) (from_first place)
+    (to_last place (omega (arith, c.last_passing.ensures.within, c.requires.from_lt_to))) (le_yes passed refl) (rw (next_place place) after)

@@ -3,7 +3,7 @@ use Prim.Native.Nat.{◌≤◌}
 use native.Mathlib.Omega.{arith}
 use lib.IntN.{ℤ, pos, nat_abs}
 use mir.Syntax.{w64}
-use mir.Val.{SFits, to_z, of_z}
+use mir.Val.{to_z, of_z}
 use mir.Facts.{to_z-of_z}
 use Rattle.whole.proofs.Machine.{back}
 use Rattle.whole.proofs.Size.{abs→fits}
@@ -15,49 +15,36 @@ use Rattle.deviation.specs.Working.{plain_deviation}
 use Rattle.deviation.proofs.Sized.{farthest, linear, square, linear-size, square-size}
 use Rattle.deviation.proofs.working.plain_deviation.Goals as goal
 
+-- a coefficient, read back from its bits
+read : (z : ℤ) → nat_abs z ≤ largest_coefficient → to_z w64 (of_z w64 z) ≡ z
+read z h = to_z-of_z (abs→fits z (omega (arith, h)))
+
 pub turn-linear-requires : goal.turn-linear-requires
 turn-linear-requires c =
-    let near : nat_abs c.args.x ≤ farthest = omega (arith, c.requires.1) in
-    let b-fits : SFits w64 c.args.k.b = abs→fits c.args.k.b (omega (arith, c.requires.0.b)) in
-    let c-fits : SFits w64 c.args.k.c = abs→fits c.args.k.c (omega (arith, c.requires.0.c)) in
     let k = c.args.k in
-    rw (to_z-of_z c-fits, to_z-of_z c.ranges.x, to_z-of_z b-fits)
-    (turn-room one farthest (omega arith) c.args.x near k.c k.b largest_coefficient largest_coefficient c.requires.0.c c.requires.0.b (omega arith) (omega arith))
+    let s = c.requires.0 in
+    rw (read k.c s.c, to_z-of_z c.ranges.x, read k.b s.b)
+    (turn-room one farthest (omega arith) c.args.x (omega (arith, c.requires.1)) k.c k.b largest_coefficient largest_coefficient s.c s.b (omega arith) (omega arith))
 
 pub turn-square-requires : goal.turn-square-requires
 turn-square-requires c =
-    let near : nat_abs c.args.x ≤ farthest = omega (arith, c.requires.1) in
-    let a-fits : SFits w64 c.args.k.a = abs→fits c.args.k.a (omega (arith, c.requires.0.a)) in
-    let line : ℤ = linear c.args.k c.requires.0 c.args.x near in
-    let b-fits : SFits w64 c.args.k.b = abs→fits c.args.k.b (omega (arith, c.requires.0.b)) in
-    let c-fits : SFits w64 c.args.k.c = abs→fits c.args.k.c (omega (arith, c.requires.0.c)) in
-    let is-linear : to_z w64 (of_z w64 c.turn-linear.result) ≡ line = rw (back _ c.turn-linear.type_inv, c.turn-linear.ensures, to_z-of_z (c-fits), to_z-of_z c.ranges.x, to_z-of_z (b-fits)) in
     let k = c.args.k in
-    rw (is-linear, to_z-of_z c.ranges.x, to_z-of_z a-fits)
-    (turn-room one farthest (omega arith) c.args.x near line k.a 440_000_001 largest_coefficient (linear-size k c.requires.0 c.args.x near) c.requires.0.a (omega arith) (omega arith))
+    let s = c.requires.0 in
+    let near : nat_abs c.args.x ≤ farthest = omega (arith, c.requires.1) in
+    rw (back c.turn-linear.result c.turn-linear.type_inv, c.turn-linear.ensures, read k.c s.c, to_z-of_z c.ranges.x, read k.b s.b, read k.a s.a)
+    (turn-room one farthest (omega arith) c.args.x near (linear k s c.args.x near) k.a 440_000_001 largest_coefficient (linear-size k s c.args.x near) s.a (omega arith) (omega arith))
 
 pub turn-requires : goal.turn-requires
 turn-requires c =
+    let k = c.args.k in
+    let s = c.requires.0 in
     let near : nat_abs c.args.x ≤ farthest = omega (arith, c.requires.1) in
-    let bend : ℤ = square c.args.k c.requires.0 c.args.x near in
-    let a-fits : SFits w64 c.args.k.a = abs→fits c.args.k.a (omega (arith, c.requires.0.a)) in
-    let b-fits : SFits w64 c.args.k.b = abs→fits c.args.k.b (omega (arith, c.requires.0.b)) in
-    let c-fits : SFits w64 c.args.k.c = abs→fits c.args.k.c (omega (arith, c.requires.0.c)) in
-    let line : ℤ = linear c.args.k c.requires.0 c.args.x near in
-    let is-linear : to_z w64 (of_z w64 c.turn-linear.result) ≡ line = rw (back _ c.turn-linear.type_inv, c.turn-linear.ensures, to_z-of_z (c-fits), to_z-of_z c.ranges.x, to_z-of_z (b-fits)) in
-    let is-square : to_z w64 (of_z w64 c.turn-square.result) ≡ bend = rw (back _ c.turn-square.type_inv, c.turn-square.ensures, is-linear, to_z-of_z c.ranges.x, to_z-of_z (a-fits)) in
-    rw (is-square, to_z-of_z c.ranges.x)
-    (turn-room one farthest (omega arith) c.args.x near bend (pos 0) 1_596_000_004 0 (square-size c.args.k c.requires.0 c.args.x near) (omega arith) (omega arith) (omega arith))
+    rw (back c.turn-square.result c.turn-square.type_inv, c.turn-square.ensures, back c.turn-linear.result c.turn-linear.type_inv, c.turn-linear.ensures, read k.c s.c, to_z-of_z c.ranges.x, read k.b s.b, read k.a s.a)
+    (turn-room one farthest (omega arith) c.args.x near (square k s c.args.x near) (pos 0) 1_596_000_004 0 (square-size k s c.args.x near) (omega arith) (omega arith) (omega arith))
 
 pub returns : goal.returns
 unfolding plain_deviation rounded
 returns c =
-    let a-fits : SFits w64 c.args.k.a = abs→fits c.args.k.a (omega (arith, c.requires.0.a)) in
-    let near : nat_abs c.args.x ≤ farthest = omega (arith, c.requires.1) in
-    let bend : ℤ = square c.args.k c.requires.0 c.args.x near in
-    let b-fits : SFits w64 c.args.k.b = abs→fits c.args.k.b (omega (arith, c.requires.0.b)) in
-    let c-fits : SFits w64 c.args.k.c = abs→fits c.args.k.c (omega (arith, c.requires.0.c)) in
-    let line : ℤ = linear c.args.k c.requires.0 c.args.x near in
-    let is-linear : to_z w64 (of_z w64 c.turn-linear.result) ≡ line = rw (back _ c.turn-linear.type_inv, c.turn-linear.ensures, to_z-of_z (c-fits), to_z-of_z c.ranges.x, to_z-of_z (b-fits)) in
-    let is-square : to_z w64 (of_z w64 c.turn-square.result) ≡ bend = rw (back _ c.turn-square.type_inv, c.turn-square.ensures, is-linear, to_z-of_z c.ranges.x, to_z-of_z (a-fits)) in
-    rw (back _ c.turn.type_inv, c.turn.ensures, is-square, to_z-of_z c.ranges.x)
+    let k = c.args.k in
+    let s = c.requires.0 in
+    rw (back c.turn.result c.turn.type_inv, c.turn.ensures, back c.turn-square.result c.turn-square.type_inv, c.turn-square.ensures, back c.turn-linear.result c.turn-linear.type_inv, c.turn-linear.ensures, read k.c s.c, to_z-of_z c.ranges.x, read k.b s.b, read k.a s.a)

@@ -13,12 +13,12 @@ pub returns-in-Launch : goal.returns-in-Launch
 unfolding decimal
 returns-in-Launch c =
     let s = c.args in
-    subst (λ (d : Desk). PlacedAs (number_of WrongHeader) (wrong_header d) s.out.now c.place.new.out c.place.result) (sym c.in-Launch.is)
-    (subst (λ (n : ℕ). PlacedAs n (wrong_header Launch) s.out.now c.place.new.out c.place.result) c.number-number.ensures c.place.ensures)
+    subst (λ (d : Desk). PlacedAs (number_of WrongHeader) (wrong_header d) s.out.now c.place_text.new.out c.place_text.result) (sym c.in-Launch.is)
+    (subst (λ (n : ℕ). PlacedAs n (wrong_header Launch) s.out.now c.place_text.new.out c.place_text.result) c.number-number.ensures c.place_text.ensures)
 
 pub returns-in-Bench : goal.returns-in-Bench
 unfolding decimal
 returns-in-Bench c =
     let s = c.args in
-    subst (λ (d : Desk). PlacedAs (number_of WrongHeader) (wrong_header d) s.out.now c.place-in-Bench.new.out c.place-in-Bench.result) (sym c.in-Bench.is)
-    (subst (λ (n : ℕ). PlacedAs n (wrong_header Bench) s.out.now c.place-in-Bench.new.out c.place-in-Bench.result) c.number-number.ensures c.place-in-Bench.ensures)
+    subst (λ (d : Desk). PlacedAs (number_of WrongHeader) (wrong_header d) s.out.now c.place_text-in-Bench.new.out c.place_text-in-Bench.result) (sym c.in-Bench.is)
+    (subst (λ (n : ℕ). PlacedAs n (wrong_header Bench) s.out.now c.place_text-in-Bench.new.out c.place_text-in-Bench.result) c.number-number.ensures c.place_text-in-Bench.ensures)

@@ -1,7 +1,10 @@
 use mathlib.Core.Path.{◌≡◌}
 use mathlib.Core.List.{List, ◌∷◌}
-use Prim.Native.Nat.{◌≤◌}
+use Prim.Native.Nat.{ℕ, ◌≤◌}
+use lib.ListN.{take}
 use lib.IntN.{ℤ}
+use Rattle.std.specs.Iterator.Adapters.{rev_source}
+use Rattle.std.specs.Slice.Iter.{iter_rest}
 use Rattle.exact.proofs.Loops.{from}
 use Rattle.reference.specs.Reference.{C₀, C₁₋₉, middle}
 use Rattle.reference.proofs.working.working_at.Given as goal
@@ -10,9 +13,8 @@ use Rattle.reference.proofs.working.working_at.Given as goal
 abbrev pub C : List ℤ
 C = C₀ ∷ C₁₋₉
 
--- from C9 down to Ci
-abbrev pub invariant-loop-i : goal.invariant-loop-i
-invariant-loop-i l = (l.i ≤ 9) × (l.sum ≡ from middle l.n C l.i)
-
-abbrev pub decreases-loop-i : goal.decreases-loop-i
-decreases-loop-i l = l.i
+-- from C9 down to Ck, of which those below are left
+abbrev pub invariant-loop-c : goal.invariant-loop-c
+invariant-loop-c l =
+    (goal.iterator-loop-c).can_next l.c-iterator × (goal.iterator-loop-c).is_finite l.c-iterator
+    × ((k : ℕ) × (k ≤ 9) × (iter_rest (rev_source l.c-iterator) ≡ take k C) × (l.sum ≡ from middle l.n C k))

@@ -5,6 +5,3 @@ use Rattle.register.proofs.imports.check.Given as goal
 
 abbrev pub invariant-loop-k : goal.invariant-loop-k
 invariant-loop-k l = noted_from l.table l.list (nothing_noted l.places) 0 l.list ≡ noted_from l.table l.list l.s l.k (drop l.k l.list)
-
-abbrev pub decreases-loop-k : goal.decreases-loop-k
-decreases-loop-k l = length l.list - l.k

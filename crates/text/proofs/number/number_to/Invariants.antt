@@ -1,10 +1,6 @@
 use Rattle.text.proofs.Numbers.{Figures}
-use Prim.Native.Nat.{◌-◌, ◌≤◌}
 use Rattle.text.proofs.number.number_to.Given as goal
 
 -- `text::number::number_to` meets its contract: the bytes passed are digits, and `value` is their value.
 abbrev pub invariant-loop-i : goal.invariant-loop-i
-invariant-loop-i l = Figures l.s l.value l.i × (l.i ≤ l.end)
-
-abbrev pub decreases-loop-i : goal.decreases-loop-i
-decreases-loop-i l = l.end - l.i
+invariant-loop-i l = Figures l.s l.value l.i

@@ -1,10 +1,11 @@
+use mathlib.Core.Path.{sym, ◌∙◌}
 use Rattle.certificate.specs.AtFault.{cell_at_fault}
 use Rattle.certificate.proofs.record.Record.faulty_cell.Goals as goal
 
-pub returns-in-Unknown : goal.returns-in-Unknown
+pub returns-in_err-named : goal.returns-in_err-named
 unfolding cell_at_fault
-returns-in-Unknown c = rw (← c.in-Unknown.ensures)
+returns-in_err-named c = rw (sym c.named.ensures ∙ c.in_err-named.was) c.from_residual.ensures
 
-pub returns-in-Known : goal.returns-in-Known
+pub returns : goal.returns
 unfolding cell_at_fault
-returns-in-Known c = rw (← c.in-Known.ensures) c.at_fault.ensures
+returns c = rw (sym c.named.ensures ∙ c.in_ok-named.was) c.at_fault.ensures

@@ -1,0 +1,67 @@
+use mathlib.Core.Path.{◌≡◌, ap, ◌∙◌}
+use mathlib.Core.List.{List, [], ◌∷◌}
+use native.Mathlib.Omega.{arith}
+use Prim.Native.Nat.{ℕ}
+use lib.ListN.{drop}
+use Rattle.text.specs.declared.field.Scanned.{Scanned}
+use Rattle.text.specs.Fields.{field}
+use mathlib.Core.Bool.{true}
+use Rattle.text.specs.Columns.{Value, well_formed, count, named, word, is_id, is_name, names_length}
+use Rattle.text.specs.Scanned.{next_at}
+use Rattle.text.proofs.Rows.{Scan, scan-no-row, done, a-name, a-natural, an-id, from_start}
+use Rattle.text.proofs.Names.{names-end}
+use Rattle.row.specs.Records.{columns, row_from, row_of}
+use Rattle.row.proofs.Read.{no-row, read-row}
+use Rattle.row.proofs.records.RecordRowRow.read.Goals as goal
+
+pub returns-then-ag-line : goal.returns-then-ag-line
+returns-then-ag-line c =
+    let line : List ℕ = c.args.line.now in
+    let said : List Value = word (field (drop 0 (line)))
+    ∷ named c.name_at-subrange.result.value
+    ∷ count c.number_at-hg.result.value
+    ∷ count c.number_at-ga.result.value
+    ∷ count c.number_at-indium.result.value
+    ∷ count c.number_at-sn.result.value
+    ∷ count c.number_at-zn.result.value
+    ∷ count c.number_at-al.result.value
+    ∷ count c.number_at-ag.result.value
+    ∷ [] in
+    let scan : Scan line columns 0 c.number_at-ag.result.next said = an-id c.after_id.result (c.after_id.ensures ∙ from_start (line) is_id)
+    (a-name c.name_at-subrange.result c.name_at-subrange.ensures
+    (a-natural c.number_at-hg.result c.number_at-hg.ensures
+    (a-natural c.number_at-ga.result c.number_at-ga.ensures
+    (a-natural c.number_at-indium.result c.number_at-indium.ensures
+    (a-natural c.number_at-sn.result c.number_at-sn.ensures
+    (a-natural c.number_at-zn.result c.number_at-zn.ensures
+    (a-natural c.number_at-al.result c.number_at-al.ensures
+    (a-natural c.number_at-ag.result c.number_at-ag.ensures
+    done)))))))) in
+    no-row columns row_of line (scan-no-row line scan c.requires (λ e. omega (arith, c.if-ag-line.true, e)))
+
+pub returns : goal.returns
+returns c =
+    let line : List ℕ = c.args.line.now in
+    let said : List Value = word (field (drop 0 (line)))
+    ∷ named c.name_at-subrange.result.value
+    ∷ count c.number_at-hg.result.value
+    ∷ count c.number_at-ga.result.value
+    ∷ count c.number_at-indium.result.value
+    ∷ count c.number_at-sn.result.value
+    ∷ count c.number_at-zn.result.value
+    ∷ count c.number_at-al.result.value
+    ∷ count c.number_at-ag.result.value
+    ∷ [] in
+    let scan : Scan line columns 0 c.number_at-ag.result.next said = an-id c.after_id.result (c.after_id.ensures ∙ from_start (line) is_id)
+    (a-name c.name_at-subrange.result c.name_at-subrange.ensures
+    (a-natural c.number_at-hg.result c.number_at-hg.ensures
+    (a-natural c.number_at-ga.result c.number_at-ga.ensures
+    (a-natural c.number_at-indium.result c.number_at-indium.ensures
+    (a-natural c.number_at-sn.result c.number_at-sn.ensures
+    (a-natural c.number_at-zn.result c.number_at-zn.ensures
+    (a-natural c.number_at-al.result c.number_at-al.ensures
+    (a-natural c.number_at-ag.result c.number_at-ag.ensures
+    done)))))))) in
+    let names : well_formed columns line ≡ true → c.name_at-subrange.result.next ≡ names_length line =
+    λ w. ap (λ (x : Scanned ℕ). x.next) c.name_at-subrange.ensures ∙ ap (next_at is_name line) (c.after_id.ensures ∙ from_start line is_id) ∙ names-end _ _ _ _ line w in
+    read-row columns row_from line scan c.requires c.if-ag-line.false c.name_at-subrange.result.next names
