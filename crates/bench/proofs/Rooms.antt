@@ -28,6 +28,7 @@ use Rattle.curve.specs.declared.tolerance.Class.{Class}
 use Rattle.curve.specs.Curve.{exact, units, first, last}
 use Rattle.curve.specs.Ways.{range}
 use Rattle.curve.specs.Tolerance.{class_a, class_b, class_named, allows, LawAndResult, no_result, test_by_class}
+use Rattle.quantity.specs.declared.resistance.Ratio.{Ratio}
 use Rattle.certificate.specs.declared.record.Record.{Record}
 use Rattle.certificate.specs.declared.soundness.Given.{Given}
 use Rattle.certificate.specs.Certificate.{LawAndPlaces, no_places, held, certificate_of, sound_tests}
@@ -64,7 +65,7 @@ abbrev result_bytes : ℕ
 result_bytes = 5 + 10
 
 -- ---- certificates
-places-short : (s : Subrange) (ratios : Record) (a : LawAndPlaces) → number_given (record_of s ratios).tests ≡ 0 → a ≡ held (made s ratios) → length (commaed (places_written a.places)) ≤ places_bytes
+places-short : (s : Subrange) (ratios : Record Ratio) (a : LawAndPlaces) → number_given (record_of s ratios).tests ≡ 0 → a ≡ held (made s ratios) → length (commaed (places_written a.places)) ≤ places_bytes
 places-short s ratios a e is =
     let k = (made s ratios).places in
     let sized = made-sized s ratios e in

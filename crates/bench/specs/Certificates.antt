@@ -1,5 +1,5 @@
 -- Lists of records, which become certificates, and what is written of one.
-use Rattle.std.specs.Prelude.{List, [], ◌∷◌, ◌++◌, ℕ, Err, Ok, Result}
+use Rattle.std.specs.Prelude.{List, [], ◌∷◌, ◌++◌, ℕ, Err, Ok, Result, Option}
 use Prim.Native.String.{String}
 use Rattle.whole.specs.Text.{ascii}
 use Rattle.quantity.specs.Refusals.{number_of}
@@ -15,7 +15,7 @@ use Rattle.text.specs.Columns.{Column, Value}
 use Rattle.row.specs.Limits.{Limits, limits}
 use Rattle.row.specs.Records as ratios
 use Rattle.row.specs.Resistances as pairs
-use Rattle.line.specs.declared.lent.Placing.{Placing}
+use Rattle.line.specs.declared.lent.LineAnswer.{LineAnswer}
 use Rattle.line.specs.Kinds.{Kind, blanks}
 use Rattle.line.specs.Lent.{PlacedAs}
 use Rattle.line.specs.Writing.{commaed, refused_text}
@@ -49,6 +49,6 @@ abbrev pub resistances : Kind
 resistances = resistances_up_to limits
 
 -- What an inner function writes of a record's answer, after its names.
-abbrev pub CertificatePlaced : Result Certificate Refusal → List ℕ → List ℕ → List ℕ → Placing → Type 0
+abbrev pub CertificatePlaced : Result Certificate Refusal → List ℕ → List ℕ → List ℕ → Option LineAnswer → Type 0
 CertificatePlaced (Ok k) names out out' x = PlacedAs 0 (names ++ commaed (places_written k.places) ++ ascii "0\r\n") out out' x
 CertificatePlaced (Err why) names out out' x = PlacedAs (number_of why) (refused_text names (commaed (blanks place_titles)) (number_of why)) out out' x

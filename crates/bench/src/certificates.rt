@@ -12,7 +12,7 @@ ghost use Rattle.bench.specs.Rooms.{places_most, made_in};
 use crate::scratch::scratch;
 use certificate::Certificate;
 use deviation::Places;
-use line::{Kind, Placing};
+use line::{Kind, LineAnswer};
 use quantity::Refusal;
 use row::{RecordRow, ResistancesRow};
 
@@ -39,7 +39,7 @@ fn certificate_text(names: &[u8], k: Places, out: &mut [u8]) -> usize
 }
 
 // Writes the answer to a record that became a certificate.
-fn place_certificate(names: &[u8], k: Places, out: &mut [u8]) -> Placing
+fn place_certificate(names: &[u8], k: Places, out: &mut [u8]) -> Option<LineAnswer>
     requires { length names.now ≤ longest_line }
     ensures { PlacedAs 0 (names.now ++ commaed (places_written k) ++ ascii "0\r\n") out.old out.new result }
 {
@@ -48,7 +48,11 @@ fn place_certificate(names: &[u8], k: Places, out: &mut [u8]) -> Placing
     line::place_text(0, &made[..n], out)
 }
 
-fn place_answer(names: &[u8], answer: Result<Certificate, Refusal>, out: &mut [u8]) -> Placing
+fn place_answer(
+    names: &[u8],
+    answer: Result<Certificate, Refusal>,
+    out: &mut [u8],
+) -> Option<LineAnswer>
     requires { length names.now ≤ longest_line }
     ensures { CertificatePlaced answer names.now out.old out.new result }
 {
@@ -77,7 +81,7 @@ impl Kind for Records {
         b",,,,,"
     }
 
-    fn answer_row(line: &[u8], row: RecordRow, out: &mut [u8]) -> Placing {
+    fn answer_row(line: &[u8], row: RecordRow, out: &mut [u8]) -> Option<LineAnswer> {
         place_answer(&line[..row.names], row.cells.certify(), out)
     }
 }
@@ -101,7 +105,7 @@ impl Kind for RecordsByResistances {
         b",,,,,"
     }
 
-    fn answer_row(line: &[u8], row: ResistancesRow, out: &mut [u8]) -> Placing {
+    fn answer_row(line: &[u8], row: ResistancesRow, out: &mut [u8]) -> Option<LineAnswer> {
         place_answer(&line[..row.names], row.cells.certify(), out)
     }
 }

@@ -10,7 +10,7 @@ ghost use Rattle.bench.specs.Forward.{steps};
 ghost use Rattle.bench.specs.Rooms.{made_in};
 
 use crate::scratch::scratch;
-use line::{Kind, Placing};
+use line::{Kind, LineAnswer};
 use quantity::Ratio;
 use row::ForwardRow;
 
@@ -23,7 +23,7 @@ fn ratio_text(names: &[u8], w: Ratio, out: &mut [u8]) -> usize
     text::add(out, end, b",0\r\n")
 }
 
-fn place_ratio(names: &[u8], w: Ratio, out: &mut [u8]) -> Placing
+fn place_ratio(names: &[u8], w: Ratio, out: &mut [u8]) -> Option<LineAnswer>
     requires { length names.now ≤ longest_line }
     ensures { PlacedAs 0 (names.now ++ decimal w.0 ++ ascii ",0\r\n") out.old out.new result }
 {
@@ -51,7 +51,7 @@ impl Kind for Steps {
         b","
     }
 
-    fn answer_row(line: &[u8], row: ForwardRow, out: &mut [u8]) -> Placing {
+    fn answer_row(line: &[u8], row: ForwardRow, out: &mut [u8]) -> Option<LineAnswer> {
         let names = &line[..row.names];
         match reading::forward(row.certificate, row.step) {
             Ok(found) => place_ratio(names, found.ratio, out),

@@ -10,7 +10,7 @@ ghost use Rattle.bench.specs.Tolerances.{tolerances, result_word};
 ghost use Rattle.bench.specs.Rooms.{made_in};
 
 use crate::scratch::scratch;
-use line::{Kind, Placing};
+use line::{Kind, LineAnswer};
 use row::ToleranceRow;
 
 fn add_result(out: &mut [u8], at: usize, passes: bool) -> usize
@@ -33,7 +33,7 @@ fn result_text(names: &[u8], passes: bool, error: i64, out: &mut [u8]) -> usize
     text::add(out, end, b"0\r\n")
 }
 
-fn place_result(names: &[u8], passes: bool, error: i64, out: &mut [u8]) -> Placing
+fn place_result(names: &[u8], passes: bool, error: i64, out: &mut [u8]) -> Option<LineAnswer>
     requires { length names.now ≤ longest_line }
     ensures { PlacedAs 0 (names.now ++ (result_word passes ++ ascii ",") ++ (signed_decimal error ++ ascii ",") ++ ascii "0\r\n") out.old out.new result }
 {
@@ -61,7 +61,7 @@ impl Kind for Tolerances {
         b",,"
     }
 
-    fn answer_row(line: &[u8], row: ToleranceRow, out: &mut [u8]) -> Placing {
+    fn answer_row(line: &[u8], row: ToleranceRow, out: &mut [u8]) -> Option<LineAnswer> {
         let names = &line[..row.names];
         match reading::tolerance_test(row.class, row.bath, row.r, row.r0) {
             Ok(x) => place_result(names, x.passes, x.error, out),

@@ -27,6 +27,7 @@ use Rattle.law.proofs.Subranges.{every_subrange, names_law}
 use Rattle.deviation.specs.declared.places.Places.{Places}
 use Rattle.deviation.specs.Limits.{x, δ, keeps}
 use Rattle.fit.specs.Fit.{◌·◌, ◌÷◌, beyond}
+use Rattle.quantity.specs.declared.resistance.Ratio.{Ratio}
 use Rattle.certificate.specs.declared.record.Record.{Record}
 use Rattle.certificate.specs.declared.soundness.Given.{Given}
 use Rattle.certificate.specs.Certificate.{certificate_of, sound, LawAndPlaces, no_places}
@@ -67,13 +68,13 @@ is_same_places p q e =
     fields
 
 -- by the subrange that the record names, and the law of the same name
-abbrev record_test : Option Subrange → Option Law → Record → Gives → Bool
+abbrev record_test : Option Subrange → Option Law → Record Ratio → Gives → Bool
 record_test None law ratios x = false
 record_test (Some s) law ratios (places p) =
     eqb (number_given (record_of s ratios).tests) 0 && (eqb (name_if law) (law_name (Scale s)) && same_places p (made s ratios).places)
 record_test (Some s) law ratios (number n) = not (eqb n 0) && eqb (number_given (record_of s ratios).tests) n
 
-record_passes : (named : Option Subrange) (law : Option Law) (ratios : Record) (x : Gives) → record_test named law ratios x ≡ true → Follows (if_named no_places named (λ s. record_of s ratios)) (given_by law x)
+record_passes : (named : Option Subrange) (law : Option Law) (ratios : Record Ratio) (x : Gives) → record_test named law ratios x ≡ true → Follows (if_named no_places named (λ s. record_of s ratios)) (given_by law x)
 record_passes None law ratios x e = absurd (false≢true e)
 record_passes (Some s) law ratios (places p) e =
     let rule = record_of s ratios in

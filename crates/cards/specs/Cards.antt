@@ -6,6 +6,7 @@ use Rattle.reference.specs.Reference.{working}
 use Rattle.law.specs.declared.laws.Law.{Law}
 use Rattle.law.specs.Names.{spelled}
 use Rattle.law.specs.Subranges.{law_named}
+use Rattle.quantity.specs.declared.resistance.Ratio.{Ratio}
 use Rattle.certificate.specs.declared.record.Record.{Record}
 use Rattle.law.specs.Answers.{LawAndStep, no_step}
 use Rattle.deviation.specs.declared.places.Places.{Places}
@@ -43,7 +44,7 @@ pub data Card : Type 0 where
   -- a certificate as it is given, a ratio W, and what it reads
   reads : Given → ℕ → Reads → Card
   -- a record, and what it gives
-  gives : Record → Gives → Card
+  gives : Record Ratio → Gives → Card
 
 -- What a card says of the definitions. A card of a ratio speaks of every R and R0 that have it, and its reading names the law that the card names.
 abbrev pub Holds : Card → Type 0

@@ -12,8 +12,9 @@ use Rattle.quantity.specs.Outcomes.{Outcome, number_given, Follows}
 use Rattle.quantity.proofs.Outcomes.{one-named, not-answered, one-refusal, passed}
 use Rattle.law.specs.declared.laws.Law.TheVariants.{Curve}
 use Rattle.law.specs.Subranges.{law_named, subrange_named}
+use Rattle.quantity.specs.declared.resistance.Ratio.{Ratio}
 use Rattle.certificate.specs.declared.record.Record.{Record}
-use Rattle.certificate.specs.declared.resistances.Resistances.{Resistances}
+use Rattle.certificate.specs.declared.resistances.Pair.{Pair}
 use Rattle.certificate.specs.declared.soundness.Given.{Given}
 use Rattle.certificate.specs.declared.soundness.Certificate.{Certificate}
 use Rattle.quantity.specs.declared.refusal.Refusal.{Refusal}
@@ -39,14 +40,14 @@ pub one_given : (given : Given) (x y : Result Certificate Refusal) → Follows (
 one_given given x y h i =
     stated_unique x y (one-named no_places (law_named given.law.0) (λ law. given_by law given) (λ law a b p q. p ∙ sym q) (stated x) (stated y) h i)
 
-pub record_unique : (ratios : Record) (o o' : Outcome LawAndPlaces) → Follows (record_rule ratios) o → Follows (record_rule ratios) o' → o ≡ o'
+pub record_unique : (ratios : Record Ratio) (o o' : Outcome LawAndPlaces) → Follows (record_rule ratios) o → Follows (record_rule ratios) o' → o ≡ o'
 record_unique ratios = one-named no_places (subrange_named ratios.subrange.0) (λ s. record_of s ratios) (λ s a b p q. p ∙ sym q)
 
-pub one_of_record : (ratios : Record) (x y : Result Certificate Refusal) → Follows (record_rule ratios) (stated x) → Follows (record_rule ratios) (stated y) → x ≡ y
+pub one_of_record : (ratios : Record Ratio) (x y : Result Certificate Refusal) → Follows (record_rule ratios) (stated x) → Follows (record_rule ratios) (stated y) → x ≡ y
 one_of_record ratios x y h i = stated_unique x y (record_unique ratios (stated x) (stated y) h i)
 
-pub resistances_unique : (largest : ℕ) (resistances : Resistances) (o o' : Outcome LawAndPlaces) → Follows (resistances_rule_up_to largest resistances) o → Follows (resistances_rule_up_to largest resistances) o' → o ≡ o'
+pub resistances_unique : (largest : ℕ) (resistances : Record Pair) (o o' : Outcome LawAndPlaces) → Follows (resistances_rule_up_to largest resistances) o → Follows (resistances_rule_up_to largest resistances) o' → o ≡ o'
 resistances_unique largest resistances = one-named no_places (subrange_named resistances.subrange.0) (λ s. resistances_of_up_to largest s resistances) (λ s a b p q. p ∙ sym q)
 
-pub one_of_resistances : (resistances : Resistances) (x y : Result Certificate Refusal) → Follows (resistances_rule resistances) (stated x) → Follows (resistances_rule resistances) (stated y) → x ≡ y
+pub one_of_resistances : (resistances : Record Pair) (x y : Result Certificate Refusal) → Follows (resistances_rule resistances) (stated x) → Follows (resistances_rule resistances) (stated y) → x ≡ y
 one_of_resistances resistances x y h i = stated_unique x y (resistances_unique largest_resistance resistances (stated x) (stated y) h i)

@@ -7,47 +7,25 @@ use native.Mathlib.Omega.{arith}
 use Rattle.quantity.specs.Outcomes.{Outcome, answered, Follows, if_named}
 use Rattle.quantity.proofs.Outcomes.{answer-follows, passed}
 use Rattle.law.specs.declared.cell.Cell.{Cell}
-use Rattle.law.specs.declared.cell.Cell.TheVariants.{Hg, Ga, In, Sn, Zn, Al, Ag}
 use Rattle.law.specs.declared.subrange.Subrange.{Subrange}
 use Rattle.law.specs.Subranges.{subrange_named}
 use Rattle.law.proofs.Subranges.{no_cell}
-use Rattle.certificate.specs.declared.resistances.Resistances.{Resistances}
+use Rattle.certificate.specs.declared.record.Record.{Record}
+use Rattle.certificate.specs.declared.resistances.Pair.{Pair}
 use Rattle.certificate.specs.declared.soundness.Certificate.{Certificate}
 use Rattle.certificate.specs.Certificate.{LawAndPlaces, no_places, held}
 use Rattle.certificate.specs.Record.{record_of}
-use Rattle.certificate.specs.Resistances.{is_outside, cell_outside, outside_up_to, outside, ratios_of, resistances_of}
+use Rattle.certificate.specs.Resistances.{cell_outside, outside_up_to, outside, ratios_of, resistances_of}
 use Rattle.certificate.specs.Promised.{AsRatios, YieldedByRatios, ResistancesAccepted}
 use Rattle.certificate.proofs.Made.{record_accepted}
 
 -- ---- every cell within its limits
-pub record Inside (resistances : Resistances) : Type 0 where
-  pub mercury : is_outside resistances.mercury ≡ false
-  pub gallium : is_outside resistances.gallium ≡ false
-  pub indium : is_outside resistances.indium ≡ false
-  pub tin : is_outside resistances.tin ≡ false
-  pub zinc : is_outside resistances.zinc ≡ false
-  pub aluminium : is_outside resistances.aluminium ≡ false
-  pub silver : is_outside resistances.silver ≡ false
-
-cell_inside : (resistances : Resistances) → outside resistances ≡ false → (p : Cell) → cell_outside resistances p ≡ false
+pub cell_inside : (resistances : Record Pair) → outside resistances ≡ false → (p : Cell) → cell_outside resistances p ≡ false
 unfolding outside_up_to
 cell_inside resistances = no_cell (cell_outside resistances)
 
-pub inside : (resistances : Resistances) → outside resistances ≡ false → Inside resistances
-inside resistances e =
-    let within = cell_inside resistances e in
-    record {
-      mercury = within Hg;
-      gallium = within Ga;
-      indium = within In;
-      tin = within Sn;
-      zinc = within Zn;
-      aluminium = within Al;
-      silver = within Ag;
-    }
-
 -- ---- the rule of the ratios, with 1 as its first test
-module _ (resistances : Resistances) (e : outside resistances ≡ false) (o : Outcome LawAndPlaces) where
+module _ (resistances : Record Pair) (e : outside resistances ≡ false) (o : Outcome LawAndPlaces) where
   with-1 : (named : Option Subrange) → Follows (if_named no_places named (λ s. record_of s (ratios_of resistances))) o → Follows (if_named no_places named (λ s. resistances_of s resistances)) o
   with-1 None h = h
   with-1 (Some s) h = rw e h
@@ -62,7 +40,7 @@ as_ratios resistances o e =
     (with-1 resistances e o named, without-1 resistances e o named)
 
 -- ---- a certificate, which passes 1
-yielded_inside : (resistances : Resistances) (k : Certificate) (named : Option Subrange) → Follows (if_named no_places named (λ s. resistances_of s resistances)) (answered (held k)) → outside resistances ≡ false
+yielded_inside : (resistances : Record Pair) (k : Certificate) (named : Option Subrange) → Follows (if_named no_places named (λ s. resistances_of s resistances)) (answered (held k)) → outside resistances ≡ false
 yielded_inside resistances k None h = absurd (let z : ◌≡◌ {A = ℕ} 0 3 = ap (λ (o : Outcome LawAndPlaces). o.code) h in omega arith)
 yielded_inside resistances k (Some s) h =
     (passed (outside resistances) 1 (record_of s (ratios_of resistances)).tests (omega arith) (answer-follows (resistances_of s resistances) (answered (held k)) refl h).0).0

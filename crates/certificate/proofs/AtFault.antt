@@ -1,5 +1,5 @@
 -- Which refusals have a cell at fault, and that no two answers state the same one.
-use mathlib.Core.Path.{◌≡◌, refl, sym, ◌∙◌, ap}
+use mathlib.Core.Path.{◌≡◌, refl, sym, ◌∙◌}
 use mathlib.Core.Bool.{Bool, true, false, true≢false, false≢true, ◌&&◌, ◌||◌, not}
 use mathlib.Core.List.{List, [], ◌∷◌}
 use Rattle.std.specs.Prelude.{Option, None, Some}
@@ -18,8 +18,9 @@ use Rattle.law.specs.declared.subrange.Subrange.{Subrange}
 use Rattle.law.specs.Cells.{all_cells}
 use Rattle.law.specs.Subranges.{carried, cells, to_silver, subrange_named}
 use Rattle.fit.specs.Fit.{beyond}
+use Rattle.quantity.specs.declared.resistance.Ratio.{Ratio}
 use Rattle.certificate.specs.declared.record.Record.{Record}
-use Rattle.certificate.specs.declared.resistances.Resistances.{Resistances}
+use Rattle.certificate.specs.declared.resistances.Pair.{Pair}
 use Rattle.certificate.specs.Certificate.{LawAndPlaces, no_places}
 use Rattle.certificate.specs.Record.{ratio, measured, is_above, ratio_above, is_missing, cell_missing, purity_cell_missing, impure, cell_deviates, deviates, fitted, record_of}
 use Rattle.certificate.specs.Resistances.{cell_outside, outside_up_to, outside, ratios_of, resistances_of}
@@ -36,7 +37,7 @@ one-breaks ga hg true true false m e = refl
 one-breaks ga hg true true true m e = absurd (false≢true e)
 one-breaks ga hg true false enough m e = absurd (false≢true e)
 
-some_breaks : (s : Subrange) (ratios : Record) → purity_cell_missing ratios ≡ false → impure s ratios ≡ true → list_any (breaks_purity s ratios) all_cells ≡ true
+some_breaks : (s : Subrange) (ratios : Record Ratio) → purity_cell_missing ratios ≡ false → impure s ratios ≡ true → list_any (breaks_purity s ratios) all_cells ≡ true
 unfolding purity_cell_missing impure
 some_breaks s ratios =
     one-breaks (measured ratios Ga) (measured ratios Hg) (by_gallium_or_mercury (ratio ratios Hg) (ratio ratios Ga)) (to_silver (carried s).form) (by_silver (ratio ratios Ag))
@@ -69,7 +70,7 @@ of_given P ((holds gives n) ∷ tests) each = by holds refl (of_given P tests)
     by false is later = later (each.1 is)
 
 -- ---- of a known subrange
-module _ (s : Subrange) (ratios : Record) where
+module _ (s : Subrange) (ratios : Record Ratio) where
   -- a record is never refused by 1, by which resistances are
   found : among (1 ∷ 2 ∷ 4 ∷ 6 ∷ []) (number_given (record_of s ratios).tests) ≡ true → (p : Cell) × (at_fault s ratios ≡ Some p)
   unfolding at_fault ratio_above cell_missing
@@ -110,7 +111,7 @@ module _ (s : Subrange) (ratios : Record) where
   never-1 : eqb (number_given (record_of s ratios).tests) 1 ≡ false
   never-1 = of_given (λ n. eqb n 1 ≡ false) (record_of s ratios).tests (λ _. refl, λ _. (λ _. refl, λ _. (λ _. refl, λ _. (λ _. refl, λ _. (λ _. refl, λ _. refl)))))
 
-module _ (s : Subrange) (resistances : Resistances) where
+module _ (s : Subrange) (resistances : Record Pair) where
   abbrev given : ℕ
   given = number_given (resistances_of s resistances).tests
 
@@ -184,8 +185,8 @@ unfolding cell_at_fault_by
 coefficient_at_fault_by resistances s o = named-coefficient (λ s. resistances_of s resistances) (λ s. at_fault_by s resistances) o (λ s. coefficient-by s resistances) (subrange_named resistances.subrange.0) s
 
 -- ---- one answer
-pub one_faulty_cell : (ratios : Record) (x y : Option Cell) → x ≡ cell_at_fault ratios → y ≡ cell_at_fault ratios → x ≡ y
+pub one_faulty_cell : (ratios : Record Ratio) (x y : Option Cell) → x ≡ cell_at_fault ratios → y ≡ cell_at_fault ratios → x ≡ y
 one_faulty_cell ratios x y e f = e ∙ sym f
 
-pub one_faulty_cell_by : (resistances : Resistances) (x y : Option Cell) → x ≡ cell_at_fault_by resistances → y ≡ cell_at_fault_by resistances → x ≡ y
+pub one_faulty_cell_by : (resistances : Record Pair) (x y : Option Cell) → x ≡ cell_at_fault_by resistances → y ≡ cell_at_fault_by resistances → x ≡ y
 one_faulty_cell_by resistances x y e f = e ∙ sym f

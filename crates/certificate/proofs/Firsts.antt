@@ -2,7 +2,7 @@
 use mathlib.Core.Path.{◌≡◌, refl}
 use mathlib.Core.Bool.{Bool, true, false, true≢false, false≢true, ◌||◌}
 use mathlib.Core.List.{List, [], ◌∷◌}
-use Rattle.std.specs.Prelude.{Option, None, Some}
+use Rattle.std.specs.Prelude.{None, Some}
 use Prim.Native.Nat.{ℕ}
 use native.Mathlib.Omega.{arith}
 use Rattle.std.specs.List.{find, list_any}
@@ -11,6 +11,7 @@ use Rattle.whole.specs.Choice.{if◌then◌otherwise◌}
 use Rattle.law.specs.declared.cell.Cell.{Cell}
 use Rattle.law.specs.declared.subrange.Subrange.{Subrange}
 use Rattle.law.specs.Cells.{all_cells}
+use Rattle.quantity.specs.declared.resistance.Ratio.{Ratio}
 use Rattle.certificate.specs.declared.record.Record.{Record}
 use Rattle.certificate.specs.Record.{cell_deviates, deviates}
 use Rattle.certificate.specs.AtFault.{cell_for}
@@ -41,7 +42,7 @@ module _ (holds : Cell → Bool) where
       by true h = let f = first_found ps h in let o = f.1 in absurd (let z : ◌≡◌ {A = ℕ} 0 1 = cc in omega arith)
 
 -- the first that deviates, none where 7 is given for a coefficient or is not given
-pub if_deviating : (s : Subrange) (ratios : Record) (far : Bool) → find (cell_deviates ratios) all_cells ≡ cell_for s ratios (if deviates ratios || far then 7 otherwise 0)
+pub if_deviating : (s : Subrange) (ratios : Record Ratio) (far : Bool) → find (cell_deviates ratios) all_cells ≡ cell_for s ratios (if deviates ratios || far then 7 otherwise 0)
 unfolding deviates
 if_deviating s ratios far = by (list_any (cell_deviates ratios) all_cells) far refl
   where

@@ -27,6 +27,7 @@ use Rattle.deviation.specs.Limits.{within, largest_coefficient, Small}
 use Rattle.fit.specs.declared.Point.{Point}
 use Rattle.fit.specs.Fit.{fit, beyond}
 use Rattle.fit.proofs.Within.{all_within}
+use Rattle.quantity.specs.declared.resistance.Ratio.{Ratio}
 use Rattle.certificate.specs.declared.record.Record.{Record}
 use Rattle.certificate.specs.declared.soundness.Certificate.{Certificate}
 use Rattle.certificate.specs.Certificate.{place_kept, sound, given_of, LawAndPlaces, held, no_places, given_by}
@@ -75,7 +76,7 @@ needs_aluminium s e =
     subst (λ (p : Cell). Member p (cells s)) (aluminium_is w.0 w.2) w.1
 
 -- ---- a certificate whose tests were passed
-module _ (ratios : Record) (above : ratio_above ratios ≡ false) (kept : deviates ratios ≡ false) where
+module _ (ratios : Record Ratio) (above : ratio_above ratios ≡ false) (kept : deviates ratios ≡ false) where
   aluminium-kept : (s : Subrange) → cell_missing ratios (cells s) ≡ false → (if to_silver (carried s).form then within (Wr Al) (aluminium_ratio s ratios) otherwise eqb (aluminium_ratio s ratios) 0) ≡ true
   aluminium-kept s m = by (to_silver (carried s).form) refl
     where
@@ -91,13 +92,13 @@ module _ (ratios : Record) (above : ratio_above ratios ≡ false) (kept : deviat
       rw (places, aluminium-kept s m)
 
 -- ---- what an answered record says
-record Passed (s : Subrange) (ratios : Record) : Type 0 where
+record Passed (s : Subrange) (ratios : Record Ratio) : Type 0 where
   not_above : ratio_above ratios ≡ false
   none_missing : cell_missing ratios (cells s) ≡ false
   kept : deviates ratios ≡ false
   not_beyond : beyond (fitted ratios (cells s)) ≡ false
 
-tests_passed : (s : Subrange) (ratios : Record) → number_given (record_of s ratios).tests ≡ 0 → Passed s ratios
+tests_passed : (s : Subrange) (ratios : Record Ratio) → number_given (record_of s ratios).tests ≡ 0 → Passed s ratios
 tests_passed s ratios e =
     let beyond_limit = deviates ratios || beyond (fitted ratios (cells s)) in
     let not-2 = passed (ratio_above ratios) 2 (cell_missing ratios (cells s) gives 4 ∷ purity_cell_missing ratios gives 5 ∷ impure s ratios gives 6 ∷ beyond_limit gives 7 ∷ []) (omega arith) e in
@@ -107,10 +108,10 @@ tests_passed s ratios e =
     let not-7 = or_false (deviates ratios) (beyond (fitted ratios (cells s))) (passed beyond_limit 7 [] (omega arith) not-6.1).0 in
     record { not_above = not-2.0; none_missing = not-4.0; kept = not-7.0; not_beyond = not-7.1 }
 
-passed_sound : (s : Subrange) (ratios : Record) → Passed s ratios → sound (made s ratios) ≡ true
+passed_sound : (s : Subrange) (ratios : Record Ratio) → Passed s ratios → sound (made s ratios) ≡ true
 passed_sound s ratios p = made-sound ratios p.not_above p.kept s p.none_missing p.not_beyond
 
-tested_sound : (s : Subrange) (ratios : Record) (k : Certificate) → Follows (record_of s ratios) (answered (held k)) → sound k ≡ true
+tested_sound : (s : Subrange) (ratios : Record Ratio) (k : Certificate) → Follows (record_of s ratios) (answered (held k)) → sound k ≡ true
 tested_sound s ratios k h =
     let a = answer-follows (record_of s ratios) (answered (held k)) refl h in
     subst (λ (k : Certificate). sound k ≡ true) (held_unique (made s ratios) k (sym a.1)) (passed_sound s ratios (tests_passed s ratios a.0))
@@ -127,7 +128,7 @@ pub record Sized (k : Places) : Type 0 where
   pub small : Small k
   pub aluminium : k.wal.0 ≤ largest_ratio
 
-pub made-sized : (s : Subrange) (ratios : Record) → number_given (record_of s ratios).tests ≡ 0 → Sized (made s ratios).places
+pub made-sized : (s : Subrange) (ratios : Record Ratio) → number_given (record_of s ratios).tests ≡ 0 → Sized (made s ratios).places
 made-sized s ratios e =
     let p = tests_passed s ratios e in
     record { small = (sound_limited s (made s ratios).places (passed_sound s ratios p)).small; aluminium = by p.not_above (to_silver (carried s).form) }

@@ -20,6 +20,7 @@ use Rattle.deviation.specs.Limits.{fine, x, δ, within, highest_wr}
 use Rattle.deviation.proofs.Limits.{x_parts, δ-parts, limit}
 use Rattle.fit.specs.Room.{Kept, Spread, least_gap, Roomy}
 use Rattle.fit.proofs.Sizes as sizes
+use Rattle.quantity.specs.declared.resistance.Ratio.{Ratio}
 use Rattle.certificate.specs.declared.record.Record.{Record}
 use Rattle.certificate.specs.Record.{ratio, measured, is_above, ratio_above, is_missing, cell_missing, cell_deviates, deviates, point}
 
@@ -47,11 +48,11 @@ cells-apart s = every_subrange (λ (s : Subrange). apart (least_gap (cells s)) (
 
 -- ---- a record that passes its tests
 -- each cell of a list was measured
-pub all_measured : (ratios : Record) (ps : List Cell) → cell_missing ratios ps ≡ false → (p : Cell) → Member p ps → measured ratios p ≡ true
+pub all_measured : (ratios : Record Ratio) (ps : List Cell) → cell_missing ratios ps ≡ false → (p : Cell) → Member p ps → measured ratios p ≡ true
 unfolding cell_missing
 all_measured ratios ps e p m = not-false (measured ratios p) (of_none (is_missing ratios) p ps m e)
 
-module _ (ratios : Record) (above : ratio_above ratios ≡ false) where
+module _ (ratios : Record Ratio) (above : ratio_above ratios ≡ false) where
   pub not_above : (p : Cell) → ratio ratios p ≤ largest_ratio
   unfolding ratio_above
   not_above p = ltb-false largest_ratio (ratio ratios p) (no_cell (is_above ratios) above p)

@@ -10,11 +10,11 @@ use Rattle.quantity.proofs.Widening.{not-outside, ones-move, named_move}
 use Rattle.law.specs.declared.cell.Cell.{Cell}
 use Rattle.law.specs.Cells.{all_cells}
 use Rattle.law.specs.Subranges.{subrange_named}
+use Rattle.certificate.specs.declared.record.Record.{Record}
 use Rattle.certificate.specs.declared.resistances.Pair.{Pair}
-use Rattle.certificate.specs.declared.resistances.Resistances.{Resistances}
 use Rattle.certificate.specs.Certificate.{no_places}
-use Rattle.certificate.specs.Record.{record_of}
-use Rattle.certificate.specs.Resistances.{pair, is_given, is_outside_up_to, cell_outside_up_to, outside_up_to, ratios_of, resistances_of_up_to}
+use Rattle.certificate.specs.Record.{at, record_of}
+use Rattle.certificate.specs.Resistances.{is_given, is_outside_up_to, cell_outside_up_to, outside_up_to, ratios_of, resistances_of_up_to}
 use Rattle.certificate.specs.Promised.{ResistancesWiden}
 
 module _ (largest larger : ℕ) (h : largest ≤ larger) where
@@ -27,13 +27,13 @@ module _ (largest larger : ℕ) (h : largest ≤ larger) where
       by false e = refl
       by true e = not-outside largest larger h p.r.0 p.r0.0 e
 
-  cells-inside : (resistances : Resistances) (cells : List Cell) → list_any (cell_outside_up_to largest resistances) cells ≡ false → list_any (cell_outside_up_to larger resistances) cells ≡ false
+  cells-inside : (resistances : Record Pair) (cells : List Cell) → list_any (cell_outside_up_to largest resistances) cells ≡ false → list_any (cell_outside_up_to larger resistances) cells ≡ false
   cells-inside resistances [] e = refl
   cells-inside resistances (p ∷ ps) e =
       let both = or_false (cell_outside_up_to largest resistances p) (list_any (cell_outside_up_to largest resistances) ps) e in
-      rw (pair_inside (pair resistances p) both.0, cells-inside resistances ps both.1) refl
+      rw (pair_inside (at resistances p) both.0, cells-inside resistances ps both.1) refl
 
-  all-inside : (resistances : Resistances) → outside_up_to largest resistances ≡ false → outside_up_to larger resistances ≡ false
+  all-inside : (resistances : Record Pair) → outside_up_to largest resistances ≡ false → outside_up_to larger resistances ≡ false
   unfolding outside_up_to
   all-inside resistances e = cells-inside resistances all_cells e
 

@@ -5,27 +5,16 @@ use Rattle.whole.specs.Choice.{if◌then◌otherwise◌}
 use Rattle.quantity.specs.Quantities.{largest_resistance, is_reading_up_to, is_divisor_up_to, ratio_of}
 use Rattle.quantity.specs.Outcomes.{◌gives◌, Rule, if_named}
 use Rattle.law.specs.declared.cell.Cell.{Cell}
-use Rattle.law.specs.declared.cell.Cell.TheVariants as cell
 use Rattle.law.specs.declared.subrange.Subrange.{Subrange}
 use Rattle.law.specs.Cells.{all_cells}
 use Rattle.law.specs.Subranges.{subrange_named}
+use Rattle.quantity.specs.declared.resistance.Ratio.{Ratio}
 use Rattle.certificate.specs.declared.record.Record.{Record}
 use Rattle.certificate.specs.declared.resistances.Pair.{Pair}
-use Rattle.certificate.specs.declared.resistances.Resistances.{Resistances}
 use Rattle.certificate.specs.Certificate.{LawAndPlaces, no_places}
-use Rattle.certificate.specs.Record.{record_of}
+use Rattle.certificate.specs.Record.{at, of_each, record_of}
 
--- R and R0 of a cell: the sensor's resistance in it, and in the water cell.
-abbrev pub pair : Resistances → Cell → Pair
-pair resistances cell.Hg = resistances.mercury
-pair resistances cell.Ga = resistances.gallium
-pair resistances cell.In = resistances.indium
-pair resistances cell.Sn = resistances.tin
-pair resistances cell.Zn = resistances.zinc
-pair resistances cell.Al = resistances.aluminium
-pair resistances cell.Ag = resistances.silver
-
--- 0 and 0 means that the cell was not measured.
+-- R and R0 of a cell are the sensor's resistance in it, and in the water cell. 0 and 0 means that the cell was not measured.
 abbrev pub is_given : Pair → Bool
 is_given p = not (eqb p.r.0 0 && eqb p.r0.0 0)
 
@@ -40,35 +29,26 @@ is_outside_up_to largest p = is_given p && not (is_reading_up_to largest p.r.0 &
 abbrev pub is_outside : Pair → Bool
 is_outside = is_outside_up_to largest_resistance
 
-abbrev pub cell_outside_up_to : ℕ → Resistances → Cell → Bool
-cell_outside_up_to largest resistances p = is_outside_up_to largest (pair resistances p)
+abbrev pub cell_outside_up_to : ℕ → Record Pair → Cell → Bool
+cell_outside_up_to largest resistances p = is_outside_up_to largest (at resistances p)
 
-abbrev pub cell_outside : Resistances → Cell → Bool
+abbrev pub cell_outside : Record Pair → Cell → Bool
 cell_outside = cell_outside_up_to largest_resistance
 
 -- 1: any of the seven is such a cell.
-unfoldable pub outside_up_to : ℕ → Resistances → Bool
+unfoldable pub outside_up_to : ℕ → Record Pair → Bool
 outside_up_to largest resistances = list_any (cell_outside_up_to largest resistances) all_cells
 
-abbrev pub outside : Resistances → Bool
+abbrev pub outside : Record Pair → Bool
 outside = outside_up_to largest_resistance
 
 -- The record of the cells' ratios, in which one that is rounded to 0 counts as not measured.
-abbrev pub ratios_of : Resistances → Record
+abbrev pub ratios_of : Record Pair → Record Ratio
 ratios_of resistances =
-    record {
-      subrange = resistances.subrange;
-      mercury = record { 0 = cell_ratio resistances.mercury };
-      gallium = record { 0 = cell_ratio resistances.gallium };
-      indium = record { 0 = cell_ratio resistances.indium };
-      tin = record { 0 = cell_ratio resistances.tin };
-      zinc = record { 0 = cell_ratio resistances.zinc };
-      aluminium = record { 0 = cell_ratio resistances.aluminium };
-      silver = record { 0 = cell_ratio resistances.silver };
-    }
+    of_each (λ (p : Pair). record { 0 = cell_ratio p }) resistances
 
 -- Resistances of a known subrange: 1, then the tests of the record of their ratios, 2, 4, 5, 6, 7; else its certificate.
-abbrev pub resistances_of_up_to : ℕ → Subrange → Resistances → Rule LawAndPlaces
+abbrev pub resistances_of_up_to : ℕ → Subrange → Record Pair → Rule LawAndPlaces
 resistances_of_up_to largest s resistances =
     let of_ratios = record_of s (ratios_of resistances) in
     record {
@@ -77,12 +57,12 @@ resistances_of_up_to largest s resistances =
       Answer = of_ratios.Answer;
     }
 
-abbrev pub resistances_of : Subrange → Resistances → Rule LawAndPlaces
+abbrev pub resistances_of : Subrange → Record Pair → Rule LawAndPlaces
 resistances_of = resistances_of_up_to largest_resistance
 
 -- 3: no subrange has the name that is given; then the other tests.
-abbrev pub resistances_rule_up_to : ℕ → Resistances → Rule LawAndPlaces
+abbrev pub resistances_rule_up_to : ℕ → Record Pair → Rule LawAndPlaces
 resistances_rule_up_to largest resistances = if_named no_places (subrange_named resistances.subrange.0) (λ s. resistances_of_up_to largest s resistances)
 
-abbrev pub resistances_rule : Resistances → Rule LawAndPlaces
+abbrev pub resistances_rule : Record Pair → Rule LawAndPlaces
 resistances_rule = resistances_rule_up_to largest_resistance

@@ -7,11 +7,12 @@ ghost use Rattle.certificate.specs.Resistances.{cell_outside};
 ghost use Rattle.certificate.specs.AtFault.{breaks_purity, at_fault, cell_at_fault, cell_at_fault_by};
 
 use crate::record::Record;
-use crate::resistances::Resistances;
+use crate::resistances::Pair;
 use law::{Cell, Subrange};
 use purity::{by_gallium_or_mercury, by_silver};
+use quantity::Ratio;
 
-impl Record {
+impl Record<Ratio> {
     // Whether a cell breaks a purity relation that decides.
     fn breaks_purity(self, subrange: Subrange, cell: Cell) -> bool
         ensures { result ≡ breaks_purity subrange self cell }
@@ -25,6 +26,7 @@ impl Record {
         }
     }
 
+    // The five searches are not one function with the test as a closure: it would promise something of every test, and `at_fault` would need an answer for each.
     fn first_above(self) -> Option<Cell>
         ensures { result ≡ find (is_above self) all_cells }
     {
@@ -85,7 +87,7 @@ impl Record {
     }
 }
 
-impl Resistances {
+impl Record<Pair> {
     fn first_outside(self) -> Option<Cell>
         ensures { result ≡ find (cell_outside self) all_cells }
     {

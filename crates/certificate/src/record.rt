@@ -1,10 +1,10 @@
-// A record of cell ratios, its tests in their order, and the certificate that it yields.
+// A record of cells; of cell ratios, its tests in their order, and the certificate that it yields.
 ghost use Rattle.std.specs.Prelude.{◌≡◌, ◌≤◌, false, length, map};
 ghost use Rattle.law.specs.Subranges.{cells};
 ghost use Rattle.fit.specs.Room.{Roomy, StandFor};
 ghost use Rattle.quantity.specs.Outcomes.{Follows};
 ghost use Rattle.certificate.specs.Certificate.{stated};
-ghost use Rattle.certificate.specs.Record.{ratio as ratio_of, measured as measured_by, is_above, is_missing, ratio_above, cell_missing, purity_cell_missing, impure as impure_by, cell_deviates, deviates as deviates_by, point as point_of, fitted as fitted_by, aluminium_ratio, record_of, record_rule};
+ghost use Rattle.certificate.specs.Record.{at, measured as measured_by, is_above, is_missing, ratio_above, cell_missing, purity_cell_missing, impure as impure_by, cell_deviates, deviates as deviates_by, point as point_of, fitted as fitted_by, aluminium_ratio, record_of, record_rule};
 
 use crate::soundness::Certificate;
 use deviation::{Places, cell_deviation, offset, within};
@@ -13,22 +13,23 @@ use law::{Cell, Law, Name, Subrange};
 use purity::is_pure;
 use quantity::{Ratio, Refusal};
 
-// The subrange by its name, and a ratio for each cell, 0 where it was not measured.
+// The subrange by its name, and what is given for each cell: a ratio, 0 where it was not measured, or two resistances.
+// No Option stands for a cell that was not measured: a record is given with the 0, and `measured` in the definitions says what it means.
 #[derive(Clone, Copy, Debug, PartialEq, Eq)]
-pub struct Record {
+pub struct Record<T> {
     pub subrange: Name,
-    pub mercury: Ratio,
-    pub gallium: Ratio,
-    pub indium: Ratio,
-    pub tin: Ratio,
-    pub zinc: Ratio,
-    pub aluminium: Ratio,
-    pub silver: Ratio,
+    pub mercury: T,
+    pub gallium: T,
+    pub indium: T,
+    pub tin: T,
+    pub zinc: T,
+    pub aluminium: T,
+    pub silver: T,
 }
 
-impl Record {
-    fn ratio(self, cell: Cell) -> Ratio
-        ensures { result.0 ≡ ratio_of self cell }
+impl<T: Copy> Record<T> {
+    pub(crate) fn at(self, cell: Cell) -> T
+        ensures { result ≡ at self cell }
     {
         match cell {
             Cell::Hg => self.mercury,
@@ -41,7 +42,27 @@ impl Record {
         }
     }
 
-    // W(Al) where the certificate is to hold it, for ag, and else 0.
+    // The record of what `f` makes of what is given for each cell.
+    pub(crate) fn map<U, F: Fn(T) -> U>(self, f: F) -> Record<U>
+        requires { (cell : Cell) → F.pre f (at self cell) }
+        ensures subrange { result.subrange ≡ self.subrange }
+        ensures cells { (cell : Cell) → F.post f (at self cell) (at result cell) }
+    {
+        Record {
+            subrange: self.subrange,
+            mercury: f(self.mercury),
+            gallium: f(self.gallium),
+            indium: f(self.indium),
+            tin: f(self.tin),
+            zinc: f(self.zinc),
+            aluminium: f(self.aluminium),
+            silver: f(self.silver),
+        }
+    }
+}
+
+impl Record<Ratio> {
+    // W(Al) where the certificate is to hold it, for ag, and else 0, as the definition `made` has it.
     fn aluminium_ratio(self, subrange: Subrange) -> Ratio
         ensures { result.0 ≡ aluminium_ratio subrange self }
     {
@@ -54,13 +75,13 @@ impl Record {
     pub(crate) fn measured(self, cell: Cell) -> bool
         ensures { result ≡ measured_by self cell }
     {
-        0 < self.ratio(cell).0
+        0 < self.at(cell).0
     }
 
     pub(crate) fn is_above(self, cell: Cell) -> bool
         ensures { result ≡ is_above self cell }
     {
-        quantity::LARGEST_RATIO < self.ratio(cell).0
+        quantity::LARGEST_RATIO < self.at(cell).0
     }
 
     pub(crate) fn is_missing(self, cell: Cell) -> bool
@@ -103,7 +124,7 @@ impl Record {
     pub(crate) fn cell_deviates(self, cell: Cell) -> bool
         ensures { result ≡ cell_deviates self cell }
     {
-        self.measured(cell) & !within(cell.reference(), self.ratio(cell))
+        self.measured(cell) & !within(cell.reference(), self.at(cell))
     }
 
     #[tactic(auto, unfolding(crate::specs::Record::deviates))]
@@ -117,7 +138,7 @@ impl Record {
         requires { ratio_above self ≡ false }
         ensures { result ≡ point_of self cell }
     {
-        let w = self.ratio(cell);
+        let w = self.at(cell);
         Point {
             x: offset(w),
             delta: cell_deviation(cell.reference(), w),

@@ -2,32 +2,22 @@
 ghost use Rattle.std.specs.Prelude.{◌≡◌, false};
 ghost use Rattle.quantity.specs.Outcomes.{Follows};
 ghost use Rattle.certificate.specs.Certificate.{stated};
-ghost use Rattle.certificate.specs.Resistances.{pair, is_given, is_outside, cell_outside, cell_ratio, outside as outside_by, ratios_of, resistances_rule};
+ghost use Rattle.certificate.specs.Resistances.{is_given, is_outside, cell_outside, cell_ratio, outside as outside_by, ratios_of, resistances_rule};
 
 use crate::record::Record;
 use crate::soundness::Certificate;
-use law::{Cell, Name, Subrange};
+use law::{Cell, Subrange};
 use quantity::{Nanoohm, Ratio, Refusal, are_within, ratio_within};
 
-// The sensor's resistance in a cell and in the water cell, 0 and 0 where the cell was not measured.
+// The sensor's resistance in a cell and in the water cell, 0 and 0 where the cell was not measured: it is given so, and `is_given` in the definitions says what it means.
 #[derive(Clone, Copy, Debug, PartialEq, Eq)]
 pub struct Pair {
     pub r: Nanoohm,
     pub r0: Nanoohm,
 }
 
-// The subrange by its name, and two resistances for each cell.
-#[derive(Clone, Copy, Debug, PartialEq, Eq)]
-pub struct Resistances {
-    pub subrange: Name,
-    pub mercury: Pair,
-    pub gallium: Pair,
-    pub indium: Pair,
-    pub tin: Pair,
-    pub zinc: Pair,
-    pub aluminium: Pair,
-    pub silver: Pair,
-}
+// A record of two resistances for each cell.
+pub type Resistances = Record<Pair>;
 
 impl Pair {
     fn is_given(self) -> bool
@@ -53,25 +43,11 @@ impl Pair {
     }
 }
 
-impl Resistances {
-    fn pair(self, cell: Cell) -> Pair
-        ensures { result ≡ pair self cell }
-    {
-        match cell {
-            Cell::Hg => self.mercury,
-            Cell::Ga => self.gallium,
-            Cell::In => self.indium,
-            Cell::Sn => self.tin,
-            Cell::Zn => self.zinc,
-            Cell::Al => self.aluminium,
-            Cell::Ag => self.silver,
-        }
-    }
-
+impl Record<Pair> {
     pub(crate) fn is_outside(self, cell: Cell) -> bool
         ensures { result ≡ cell_outside self cell }
     {
-        self.pair(cell).is_outside()
+        self.at(cell).is_outside()
     }
 
     // Whether R or R0 of any cell given is outside its limits.
@@ -83,20 +59,11 @@ impl Resistances {
     }
 
     // The record of the cells' ratios.
-    pub(crate) fn ratios(self) -> Record
+    pub(crate) fn ratios(self) -> Record<Ratio>
         requires { outside_by self ≡ false }
         ensures { result ≡ ratios_of self }
     {
-        Record {
-            subrange: self.subrange,
-            mercury: self.mercury.ratio(),
-            gallium: self.gallium.ratio(),
-            indium: self.indium.ratio(),
-            tin: self.tin.ratio(),
-            zinc: self.zinc.ratio(),
-            aluminium: self.aluminium.ratio(),
-            silver: self.silver.ratio(),
-        }
+        self.map(Pair::ratio)
     }
 
     // The certificate that the resistances yield, or why there is none.

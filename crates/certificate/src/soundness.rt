@@ -7,7 +7,7 @@ use deviation::{LARGEST_COEFFICIENT, Places, within};
 use law::{Cell, Law, Name};
 use quantity::{Ratio, Refusal};
 
-// A certificate as it is given: the name of its law and its places.
+// A certificate as it is given: the name of its law and its places. The two are not one generic struct: no function would be shared.
 #[derive(Clone, Copy, Debug, PartialEq, Eq)]
 pub struct Given {
     pub law: Name,

@@ -78,7 +78,7 @@ fn test_by_class(
     Ok(result_of(class, bath, reading.step))
 }
 
-// A tolerance test. The class is named by its letter.
+// A tolerance test. The class is given by its letter, and not as a `Class`: a letter that names none is refused.
 pub fn tolerance_test(
     letter: u8,
     bath: Celsius,

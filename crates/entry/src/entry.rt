@@ -7,7 +7,7 @@ use deviation::Places;
 use law::{Law, Name};
 use quantity::Ratio;
 
-// A thermometer's number. 0 names none.
+// A thermometer's number. 0 names none: tables and lists are given so, and `is_free` and the refusal 17 are defined by it.
 #[derive(Clone, Copy, Debug, PartialEq, Eq)]
 pub struct Thermometer(pub u64);
 
@@ -15,7 +15,7 @@ pub struct Thermometer(pub u64);
 #[derive(Clone, Copy, Debug, PartialEq, Eq, PartialOrd, Ord)]
 pub struct Serial(pub u64);
 
-// Number 0 is a free place, whose rest is not looked at.
+// Number 0 is a free place, whose rest is not looked at. A lent table is given so.
 #[derive(Clone, Copy, Debug, PartialEq, Eq)]
 pub struct Entry {
     pub number: Thermometer,

@@ -4,7 +4,8 @@ ghost use Rattle.examination.specs.Testing.{seen as seen_with, noted as noted_wi
 
 use entry::{Entry, is_bad, is_unknown, is_unsound};
 
-// Of a table: whether it holds a thermometer twice or a bad certificate, and how many places are free.
+// Of a table: whether it holds a thermometer twice or a bad certificate, and how many places are free. In `Seen` and in `Noted` a
+// flag is no error yet: all entries are looked at before the first refusal, in the fixed order, is taken.
 #[derive(Clone, Copy)]
 pub struct Seen {
     pub bad: bool,

@@ -11,4 +11,4 @@ pub use answer::{ForwardRatio, Reading};
 pub use cell::Cell;
 pub use laws::{CURVE, Law};
 pub use name::Name;
-pub use subrange::{Form, Subrange};
+pub use subrange::{Ag, Al, Carries, Form, Ga, In, Sn, Subrange, Zn};

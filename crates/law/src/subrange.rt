@@ -1,5 +1,14 @@
 // The subranges of the scale, and what each carries.
-ghost use Rattle.std.specs.Prelude.{◌≡◌};
+ghost use Rattle.std.specs.Prelude.{◌≡◌, pos, refl};
+ghost use Rattle.quantity.specs.declared.temperature.Celsius.{Celsius};
+ghost use Rattle.law.specs.declared.cell.Cell.{Cell};
+ghost use Rattle.law.specs.declared.cell.Cell.TheVariants as cell;
+ghost use Rattle.law.specs.declared.name.Name.{Name};
+ghost use Rattle.law.specs.declared.subrange.Form.{Form};
+ghost use Rattle.law.specs.declared.subrange.Form.TheVariants as form;
+ghost use Rattle.law.specs.declared.subrange.Subrange.{Subrange};
+ghost use Rattle.law.specs.declared.subrange.Subrange.TheVariants as subrange;
+ghost use Rattle.law.specs.Cells.{step};
 ghost use Rattle.law.specs.Subranges.{carried, cells as cells_of, coefficients as coefficients_of, to_silver, subrange_named};
 
 use crate::cell::Cell;
@@ -22,6 +31,265 @@ impl Form {
     }
 }
 
+// The type of a subrange: what it carries, by constants and by functions without `self`.
+pub trait Carries {
+    ghost subrange: { Subrange };
+
+    const NAME: Name;
+
+    ghost NAME: { Name };
+
+    // The first step.
+    const BOTTOM: Celsius;
+
+    ghost BOTTOM: { Celsius };
+
+    // The cell at whose fixed point it ends.
+    const END: Cell;
+
+    ghost END: { Cell };
+
+    const FORM: Form;
+
+    ghost FORM: { Form };
+
+    ghost name_is: { NAME.0 ≡ (carried subrange).name };
+
+    ghost bottom_is: { BOTTOM.0 ≡ (carried subrange).bottom };
+
+    ghost end_is: { step END ≡ (carried subrange).top };
+
+    ghost form_is: { FORM ≡ (carried subrange).form };
+
+    // The cells that it needs, from the lowest up.
+    fn cells() -> &'static [Cell]
+        ensures { result.now ≡ cells_of subrange };
+
+    // The last step.
+    fn top() -> Celsius
+        ensures { result.0 ≡ (carried subrange).top }
+    {
+        Self::END.step()
+    }
+
+    // How many of a, b, c, d it uses: as many as it needs cells.
+    fn coefficients() -> u64
+        ensures { result ≡ coefficients_of subrange }
+    {
+        Self::cells().len() as u64
+    }
+}
+
+#[derive(Clone, Copy)]
+pub struct Ga;
+
+impl Carries for Ga {
+    ghost subrange = { subrange.Ga };
+
+    const NAME: Name = Name(0x6761);
+
+    ghost NAME = { record { 0 = 0x6761 } };
+
+    const BOTTOM: Celsius = Celsius(0);
+
+    ghost BOTTOM = { record { 0 = pos 0 } };
+
+    const END: Cell = Cell::Ga;
+
+    ghost END = { cell.Ga };
+
+    const FORM: Form = Form::Powers;
+
+    ghost FORM = { form.Powers };
+
+    ghost name_is = { refl };
+
+    ghost bottom_is = { refl };
+
+    ghost end_is = { refl };
+
+    ghost form_is = { refl };
+
+    fn cells() -> &'static [Cell] {
+        &[Cell::Ga]
+    }
+}
+
+#[derive(Clone, Copy)]
+pub struct In;
+
+impl Carries for In {
+    ghost subrange = { subrange.In };
+
+    const NAME: Name = Name(0x696e);
+
+    ghost NAME = { record { 0 = 0x696e } };
+
+    const BOTTOM: Celsius = Celsius(0);
+
+    ghost BOTTOM = { record { 0 = pos 0 } };
+
+    const END: Cell = Cell::In;
+
+    ghost END = { cell.In };
+
+    const FORM: Form = Form::Powers;
+
+    ghost FORM = { form.Powers };
+
+    ghost name_is = { refl };
+
+    ghost bottom_is = { refl };
+
+    ghost end_is = { refl };
+
+    ghost form_is = { refl };
+
+    fn cells() -> &'static [Cell] {
+        &[Cell::In]
+    }
+}
+
+#[derive(Clone, Copy)]
+pub struct Sn;
+
+impl Carries for Sn {
+    ghost subrange = { subrange.Sn };
+
+    const NAME: Name = Name(0x736e);
+
+    ghost NAME = { record { 0 = 0x736e } };
+
+    const BOTTOM: Celsius = Celsius(0);
+
+    ghost BOTTOM = { record { 0 = pos 0 } };
+
+    const END: Cell = Cell::Sn;
+
+    ghost END = { cell.Sn };
+
+    const FORM: Form = Form::Powers;
+
+    ghost FORM = { form.Powers };
+
+    ghost name_is = { refl };
+
+    ghost bottom_is = { refl };
+
+    ghost end_is = { refl };
+
+    ghost form_is = { refl };
+
+    fn cells() -> &'static [Cell] {
+        &[Cell::In, Cell::Sn]
+    }
+}
+
+#[derive(Clone, Copy)]
+pub struct Zn;
+
+impl Carries for Zn {
+    ghost subrange = { subrange.Zn };
+
+    const NAME: Name = Name(0x7a6e);
+
+    ghost NAME = { record { 0 = 0x7a6e } };
+
+    const BOTTOM: Celsius = Celsius(0);
+
+    ghost BOTTOM = { record { 0 = pos 0 } };
+
+    const END: Cell = Cell::Zn;
+
+    ghost END = { cell.Zn };
+
+    const FORM: Form = Form::Powers;
+
+    ghost FORM = { form.Powers };
+
+    ghost name_is = { refl };
+
+    ghost bottom_is = { refl };
+
+    ghost end_is = { refl };
+
+    ghost form_is = { refl };
+
+    fn cells() -> &'static [Cell] {
+        &[Cell::Sn, Cell::Zn]
+    }
+}
+
+#[derive(Clone, Copy)]
+pub struct Al;
+
+impl Carries for Al {
+    ghost subrange = { subrange.Al };
+
+    const NAME: Name = Name(0x616c);
+
+    ghost NAME = { record { 0 = 0x616c } };
+
+    const BOTTOM: Celsius = Celsius(0);
+
+    ghost BOTTOM = { record { 0 = pos 0 } };
+
+    const END: Cell = Cell::Al;
+
+    ghost END = { cell.Al };
+
+    const FORM: Form = Form::Powers;
+
+    ghost FORM = { form.Powers };
+
+    ghost name_is = { refl };
+
+    ghost bottom_is = { refl };
+
+    ghost end_is = { refl };
+
+    ghost form_is = { refl };
+
+    fn cells() -> &'static [Cell] {
+        &[Cell::Sn, Cell::Zn, Cell::Al]
+    }
+}
+
+#[derive(Clone, Copy)]
+pub struct Ag;
+
+impl Carries for Ag {
+    ghost subrange = { subrange.Ag };
+
+    const NAME: Name = Name(0x6167);
+
+    ghost NAME = { record { 0 = 0x6167 } };
+
+    const BOTTOM: Celsius = Celsius(0);
+
+    ghost BOTTOM = { record { 0 = pos 0 } };
+
+    const END: Cell = Cell::Ag;
+
+    ghost END = { cell.Ag };
+
+    const FORM: Form = Form::PowersToSilver;
+
+    ghost FORM = { form.PowersToSilver };
+
+    ghost name_is = { refl };
+
+    ghost bottom_is = { refl };
+
+    ghost end_is = { refl };
+
+    ghost form_is = { refl };
+
+    fn cells() -> &'static [Cell] {
+        &[Cell::Sn, Cell::Zn, Cell::Al, Cell::Ag]
+    }
+}
+
 #[derive(Clone, Copy, Debug, PartialEq, Eq)]
 pub enum Subrange {
     Ga,
@@ -32,7 +300,7 @@ pub enum Subrange {
     Ag,
 }
 
-// What a subrange carries: its name, its first and its last step, the cells that it needs, from the lowest up, and the form of its deviation function.
+// What the type of a subrange carries, as a value.
 #[derive(Clone, Copy)]
 struct Carried {
     name: Name,
@@ -40,6 +308,22 @@ struct Carried {
     top: Celsius,
     cells: &'static [Cell],
     form: Form,
+}
+
+fn carried_by<S: Carries>() -> Carried
+    ensures name { result.name.0 ≡ (carried S.subrange).name }
+    ensures bottom { result.bottom.0 ≡ (carried S.subrange).bottom }
+    ensures top { result.top.0 ≡ (carried S.subrange).top }
+    ensures cells { result.cells.now ≡ (carried S.subrange).cells }
+    ensures form { result.form ≡ (carried S.subrange).form }
+{
+    Carried {
+        name: S::NAME,
+        bottom: S::BOTTOM,
+        top: S::top(),
+        cells: S::cells(),
+        form: S::FORM,
+    }
 }
 
 impl Subrange {
@@ -60,48 +344,12 @@ impl Subrange {
         ensures form { result.form ≡ (carried self).form }
     {
         match self {
-            Subrange::Ga => Carried {
-                name: Name(0x6761),
-                bottom: Celsius(0),
-                top: Cell::Ga.step(),
-                cells: &[Cell::Ga],
-                form: Form::Powers,
-            },
-            Subrange::In => Carried {
-                name: Name(0x696e),
-                bottom: Celsius(0),
-                top: Cell::In.step(),
-                cells: &[Cell::In],
-                form: Form::Powers,
-            },
-            Subrange::Sn => Carried {
-                name: Name(0x736e),
-                bottom: Celsius(0),
-                top: Cell::Sn.step(),
-                cells: &[Cell::In, Cell::Sn],
-                form: Form::Powers,
-            },
-            Subrange::Zn => Carried {
-                name: Name(0x7a6e),
-                bottom: Celsius(0),
-                top: Cell::Zn.step(),
-                cells: &[Cell::Sn, Cell::Zn],
-                form: Form::Powers,
-            },
-            Subrange::Al => Carried {
-                name: Name(0x616c),
-                bottom: Celsius(0),
-                top: Cell::Al.step(),
-                cells: &[Cell::Sn, Cell::Zn, Cell::Al],
-                form: Form::Powers,
-            },
-            Subrange::Ag => Carried {
-                name: Name(0x6167),
-                bottom: Celsius(0),
-                top: Cell::Ag.step(),
-                cells: &[Cell::Sn, Cell::Zn, Cell::Al, Cell::Ag],
-                form: Form::PowersToSilver,
-            },
+            Subrange::Ga => carried_by::<Ga>(),
+            Subrange::In => carried_by::<In>(),
+            Subrange::Sn => carried_by::<Sn>(),
+            Subrange::Zn => carried_by::<Zn>(),
+            Subrange::Al => carried_by::<Al>(),
+            Subrange::Ag => carried_by::<Ag>(),
         }
     }
 

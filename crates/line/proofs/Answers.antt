@@ -2,7 +2,7 @@
 use mathlib.Core.Path.{◌≡◌, refl, sym, ap, ◌∙◌, subst}
 use mathlib.Core.Bool.{true}
 use mathlib.Core.List.{List, [], ◌∷◌, ◌++◌, append_assoc, append-nil}
-use Rattle.std.specs.Prelude.{Some}
+use Rattle.std.specs.Prelude.{Option, Some}
 use Prim.Native.Nat.{ℕ, ◌≤◌}
 use Prim.Native.String.{String}
 use lib.ListN.{take, length}
@@ -19,7 +19,7 @@ use Rattle.text.specs.declared.columns.Fault.TheVariants.{TooLong, WrongCount, B
 use Rattle.text.specs.Columns.{well_formed, fault_of, values, field_at}
 use Rattle.text.proofs.Faults.{no_fault}
 use Rattle.text.proofs.Names.{Repeated}
-use Rattle.line.specs.declared.lent.Placing.{Placing}
+use Rattle.line.specs.declared.lent.LineAnswer.{LineAnswer}
 use Rattle.line.specs.Kinds.{Kind, line_end, answer_line, blanks, own_columns, refusal_of, fault_columns, nameless_line, fault_line}
 use Rattle.line.specs.Writing.{commaed, refused_text, fault_start, fault_text}
 use Rattle.line.specs.Lent.{PlacedAs, AnsweredAs}
@@ -44,7 +44,7 @@ answered-end : (x : List ℕ) → x ++ ascii "0\r\n" ≡ x ++ decimal 0 ++ line_
 unfolding decimal
 answered-end x = sym (append_assoc x (decimal 0) line_end)
 
-module _ (kind : Kind) (line out out' : List ℕ) (x : Placing) (w : well_formed kind.columns line ≡ true) (n : ℕ) (names : Repeated line n) where
+module _ (kind : Kind) (line out out' : List ℕ) (x : Option LineAnswer) (w : well_formed kind.columns line ≡ true) (n : ℕ) (names : Repeated line n) where
   placed_row : (o : Outcome kind.Answer) → Follows (kind.rule (values kind.columns line)) o
       → PlacedAs o.code (take n line ++ commaed (own_columns kind o) ++ decimal o.code ++ line_end) out out' x → AnsweredAs kind line out out' x
   placed_row o r p =
@@ -70,7 +70,7 @@ fault-text title titles (Broken n) why =
     (append_assoc (ascii "?,?,") (decimal n) (commaed (blanks (title ∷ titles))) ∙ ap (λ (l : List ℕ). ascii "?,?," ++ l) (sym (append_assoc (decimal n) (ascii ",") (commaed (blanks titles)))))
     ∙ answer-text (ascii "?") (ascii "?") (decimal n ∷ blanks titles) (number_of why)
 
-pub placed-fault : (kind : Kind) (title : String) (titles : List String) → kind.own ≡ title ∷ titles → (line out out' : List ℕ) (x : Placing) (fault : Fault) → fault_of kind.columns line ≡ Some fault
+pub placed-fault : (kind : Kind) (title : String) (titles : List String) → kind.own ≡ title ∷ titles → (line out out' : List ℕ) (x : Option LineAnswer) (fault : Fault) → fault_of kind.columns line ≡ Some fault
     → PlacedAs (number_of (refusal_of fault)) (fault_text fault (commaed (blanks kind.own))) out out' x → AnsweredAs kind line out out' x
 placed-fault kind title titles own line out out' x fault found p =
     let text : fault_text fault (commaed (blanks kind.own)) ≡ fault_line kind fault =
@@ -78,11 +78,11 @@ placed-fault kind title titles own line out out' x fault found p =
     (number_of (refusal_of fault), fault_line kind fault, rw found (refl, refl), subst (λ (t : List ℕ). PlacedAs (number_of (refusal_of fault)) t out out' x) text p)
 
 -- of any kind that has an own column
-pub faulty : (kind : Kind) → 1 ≤ length kind.own → (line out out' : List ℕ) (x : Placing) (fault : Fault) → fault_of kind.columns line ≡ Some fault
+pub faulty : (kind : Kind) → 1 ≤ length kind.own → (line out out' : List ℕ) (x : Option LineAnswer) (fault : Fault) → fault_of kind.columns line ≡ Some fault
     → PlacedAs (number_of (refusal_of fault)) (fault_text fault (commaed (blanks kind.own))) out out' x → AnsweredAs kind line out out' x
 faulty kind some = by kind.own refl some
   where
-    by : (own : List String) → kind.own ≡ own → 1 ≤ length own → (line out out' : List ℕ) (x : Placing) (fault : Fault) → fault_of kind.columns line ≡ Some fault
+    by : (own : List String) → kind.own ≡ own → 1 ≤ length own → (line out out' : List ℕ) (x : Option LineAnswer) (fault : Fault) → fault_of kind.columns line ≡ Some fault
         → PlacedAs (number_of (refusal_of fault)) (fault_text fault (commaed (blanks kind.own))) out out' x → AnsweredAs kind line out out' x
     by [] is none = absurd (omega arith)
     by (title ∷ titles) is some = placed-fault kind title titles is

@@ -9,19 +9,20 @@ use lib.ListN.{length, drop, length-append}
 use borrow.Author.Tests.{le-leb, lt-leb, leb-true}
 use Rattle.whole.specs.Choice.{if◌then◌otherwise◌}
 use Rattle.line.specs.declared.lent.LineAnswer.{LineAnswer}
-use Rattle.line.specs.declared.lent.Placing.{Placing}
+use Rattle.std.specs.Prelude.{Option, None, Some}
+use Rattle.std.specs.Option.{unwrap_or}
 use Rattle.line.specs.Lent.{Placed, PlacedAs}
 use Rattle.text.specs.Writing.{over}
 use Rattle.line.specs.Writing.{without_room}
 use Rattle.text.proofs.Overs.{over_start, over_more}
 
 pub placed : (number : ℕ) (text out out' : List ℕ) (wrote : ℕ) → wrote ≡ length text → wrote ≤ length out → out' ≡ text ++ drop (length text) out
-    → PlacedAs number text out out' (record { answer = record { code = number; wrote = wrote }; fitted = true })
+    → PlacedAs number text out out' (Some (record { code = number; wrote = wrote }))
 placed number text out out' wrote n h e =
-    rw (le-leb (length text) (length out) (omega arith)) ((ap (λ (k : ℕ). record { code = number; wrote = k }) n, e), refl)
+    rw (le-leb (length text) (length out) (omega arith)) (ap (λ (k : ℕ). Some (record { code = number; wrote = k })) n, e)
 
-pub not-placed : (number : ℕ) (text out : List ℕ) (x : Placing) → x ≡ without_room → length out < length text → PlacedAs number text out out x
-not-placed number text out x e h = rw (e, lt-leb (length text) (length out) h) ((refl, refl), refl)
+pub not-placed : (number : ℕ) (text out : List ℕ) (x : Option LineAnswer) → x ≡ None → length out < length text → PlacedAs number text out out x
+not-placed number text out x e h = rw (e, lt-leb (length text) (length out) h) (refl, refl)
 
 four_long : (w x y z : List ℕ) → length (w ++ x ++ y ++ z) ≡ length w + length x + length y + length z
 four_long w x y z = rw (length-append (w ++ x ++ y) z, length-append (w ++ x) y, length-append w x)
@@ -45,7 +46,7 @@ pub record Four (w x y z out out' : List ℕ) (end : ℕ) : Type 0 where
   pub fits : end ≤ length out
 
 pub placed_four : (number : ℕ) {w x y z out out' : List ℕ} {end : ℕ} → Four w x y z out out' end
-    → PlacedAs number (w ++ x ++ y ++ z) out out' (record { answer = record { code = number; wrote = end }; fitted = true })
+    → PlacedAs number (w ++ x ++ y ++ z) out out' (Some (record { code = number; wrote = end }))
 placed_four number {w} {x} {y} {z} {out} {out'} {end} f =
     let one : f.first ≡ w ++ drop (length w) out = f.first_is ∙ over_start w out in
     let two : f.second ≡ (w ++ x) ++ drop (length (w ++ x)) out = f.second_is ∙ over_more w x out f.first f.at₁ f.at₁-is one in
@@ -57,7 +58,7 @@ placed_four number {w} {x} {y} {z} {out} {out'} {end} f =
     f.fits
     (f.fourth_is ∙ over_more (w ++ x ++ y) z out f.third f.at₃ at-three three)
 
-pub not_placed_four : (number : ℕ) (w x y z out : List ℕ) (a : Placing) → a ≡ without_room → length out < length w + length x + length y + length z → PlacedAs number (w ++ x ++ y ++ z) out out a
+pub not_placed_four : (number : ℕ) (w x y z out : List ℕ) (a : Option LineAnswer) → a ≡ None → length out < length w + length x + length y + length z → PlacedAs number (w ++ x ++ y ++ z) out out a
 not_placed_four number w x y z out a e h = not-placed number (w ++ x ++ y ++ z) out a e (omega (arith, four_long w x y z))
 
 -- what is written lies within the buffer
@@ -65,6 +66,15 @@ pub placed-within : (number : ℕ) (text out out' : List ℕ) (x : LineAnswer) �
 placed-within number text out out' x = by (leb (length text) (length out)) refl
   where
     by : (t : Bool) → leb (length text) (length out) ≡ t
-        → (if t then (x ≡ record { code = number; wrote = length text }) × (out' ≡ text ++ drop (length text) out) otherwise (x ≡ without_room.answer) × (out' ≡ out)) → x.wrote ≤ length out
+        → (if t then (x ≡ record { code = number; wrote = length text }) × (out' ≡ text ++ drop (length text) out) otherwise (x ≡ without_room) × (out' ≡ out)) → x.wrote ≤ length out
     by true e (p, q) = omega (arith, ap (λ (a : LineAnswer). a.wrote) p, leb-true (length text) (length out) e)
     by false e (p, q) = omega (arith, ap (λ (a : LineAnswer). a.wrote) p)
+
+-- the number where there was no room
+pub placed-or-short : (number : ℕ) (text out out' : List ℕ) (x : Option LineAnswer) → PlacedAs number text out out' x → Placed number text out out' (unwrap_or x without_room)
+placed-or-short number text out out' x = by (leb (length text) (length out))
+  where
+    by : (t : Bool) → (if t then (x ≡ Some (record { code = number; wrote = length text })) × (out' ≡ text ++ drop (length text) out) otherwise (x ≡ None) × (out' ≡ out))
+        → (if t then (unwrap_or x without_room ≡ record { code = number; wrote = length text }) × (out' ≡ text ++ drop (length text) out) otherwise (unwrap_or x without_room ≡ without_room) × (out' ≡ out))
+    by true (p, q) = (ap (λ (y : Option LineAnswer). unwrap_or y without_room) p, q)
+    by false (p, q) = (ap (λ (y : Option LineAnswer). unwrap_or y without_room) p, q)

@@ -1,10 +1,9 @@
 -- The answer to a line in a lent buffer.
-use Rattle.std.specs.Prelude.{◌≡◌, List, ◌++◌, ℕ, leb, length, drop}
+use Rattle.std.specs.Prelude.{◌≡◌, List, ◌++◌, ℕ, leb, length, drop, Option, None, Some}
 use Rattle.whole.specs.Choice.{if◌then◌otherwise◌}
 use Rattle.quantity.specs.Refusals.{number_of}
 use Rattle.quantity.specs.declared.refusal.Refusal.TheVariants.{BufferShort}
 use Rattle.line.specs.declared.lent.LineAnswer.{LineAnswer}
-use Rattle.line.specs.declared.lent.Placing.{Placing}
 use Rattle.line.specs.Kinds.{Kind, Answered}
 
 -- A text in a buffer that may be too short for it: the buffer's first bytes are the text and the others stay, or 11 and every byte stays.
@@ -17,9 +16,11 @@ Placed number text out out' x =
 abbrev pub AnsweredInto : Kind → List ℕ → List ℕ → List ℕ → LineAnswer → Type 0
 AnsweredInto kind line out out' x = (number : ℕ) × (text : List ℕ) × Answered kind line number text × Placed number text out out' x
 
--- The same two, with whether the text fitted, by which the caller goes on.
-abbrev pub PlacedAs : ℕ → List ℕ → List ℕ → List ℕ → Placing → Type 0
-PlacedAs number text out out' x = Placed number text out out' x.answer × (x.fitted ≡ leb (length text) (length out))
+-- The same two where the caller goes on by whether there was room: nothing is answered where the text does not fit.
+abbrev pub PlacedAs : ℕ → List ℕ → List ℕ → List ℕ → Option LineAnswer → Type 0
+PlacedAs number text out out' x =
+    if leb (length text) (length out) then (x ≡ Some (record { code = number; wrote = length text })) × (out' ≡ text ++ drop (length text) out)
+    otherwise (x ≡ None) × (out' ≡ out)
 
-abbrev pub AnsweredAs : Kind → List ℕ → List ℕ → List ℕ → Placing → Type 0
+abbrev pub AnsweredAs : Kind → List ℕ → List ℕ → List ℕ → Option LineAnswer → Type 0
 AnsweredAs kind line out out' x = (number : ℕ) × (text : List ℕ) × Answered kind line number text × PlacedAs number text out out' x

@@ -1,12 +1,12 @@
 -- What the inner functions of answering write; no promise to a caller rests on it.
-use Rattle.std.specs.Prelude.{false, List, [], ◌∷◌, ◌++◌, ℕ}
+use Rattle.std.specs.Prelude.{List, [], ◌∷◌, ◌++◌, ℕ}
 use Rattle.whole.specs.Text.{ascii}
 use Rattle.quantity.specs.Refusals.{number_of}
 use Rattle.quantity.specs.declared.refusal.Refusal.TheVariants.{BufferShort}
 use Rattle.text.specs.declared.columns.Fault.{Fault}
 use Rattle.text.specs.declared.columns.Fault.TheVariants.{TooLong, WrongCount, Broken}
 use Rattle.text.specs.Decimal.{decimal}
-use Rattle.line.specs.declared.lent.Placing.{Placing}
+use Rattle.line.specs.declared.lent.LineAnswer.{LineAnswer}
 use Rattle.line.specs.Kinds.{refusal_of}
 
 -- The answer line after its names, for a row that was read and for one that was refused, whose own columns are as many commas.
@@ -31,5 +31,5 @@ commaed [] = []
 commaed (text ∷ texts) = (text ++ ascii ",") ++ commaed texts
 
 -- What is said of a text that does not fit.
-abbrev pub without_room : Placing
-without_room = record { answer = record { code = number_of BufferShort; wrote = 0 }; fitted = false }
+abbrev pub without_room : LineAnswer
+without_room = record { code = number_of BufferShort; wrote = 0 }

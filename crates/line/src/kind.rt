@@ -5,7 +5,7 @@ ghost use Rattle.line.specs.Kinds.{Kind as KindOfList, blanks};
 ghost use Rattle.line.specs.Lent.{AnsweredAs, AnsweredInto};
 ghost use Rattle.line.specs.Writing.{commaed};
 
-use crate::lent::{LineAnswer, Placing, place_fault};
+use crate::lent::{LineAnswer, no_room, place_fault};
 use row::Row;
 
 pub trait Kind {
@@ -17,8 +17,8 @@ pub trait Kind {
     fn commas() -> &'static [u8]
         ensures { result.now ≡ commaed (blanks kind.own) };
 
-    // Answers a row, which is what the line says, into a lent buffer, and says whether the answer fitted.
-    fn answer_row(line: &[u8], row: Self::Row, out: &mut [u8]) -> Placing
+    // Answers a row, which is what the line says, into a lent buffer; nothing where the answer does not fit.
+    fn answer_row(line: &[u8], row: Self::Row, out: &mut [u8]) -> Option<LineAnswer>
         requires { (well_formed kind.columns line.now ≡ true) × (row ≡ Self.Row.row_of line.now) }
         ensures { AnsweredAs kind line.now out.old out.new result };
 
@@ -29,8 +29,8 @@ pub trait Kind {
     ghost few: { length (commaed (blanks kind.own)) ≤ longest_line };
 }
 
-// Answers one line, given without its CRLF, into a lent buffer, and says whether the answer fitted.
-pub fn place<K: Kind>(line: &[u8], out: &mut [u8]) -> Placing
+// Answers one line, given without its CRLF, into a lent buffer; nothing where the answer does not fit.
+pub fn place<K: Kind>(line: &[u8], out: &mut [u8]) -> Option<LineAnswer>
     ensures { AnsweredAs K.kind line.now out.old out.new result }
 {
     match row::parse::<K::Row>(line) {
@@ -39,9 +39,9 @@ pub fn place<K: Kind>(line: &[u8], out: &mut [u8]) -> Placing
     }
 }
 
-// The same, without saying whether the answer fitted: its first bytes, or 11 and no byte where the buffer is too short.
+// The same with the number where it does not: 11.
 pub fn answer<K: Kind>(line: &[u8], out: &mut [u8]) -> LineAnswer
     ensures { AnsweredInto K.kind line.now out.old out.new result }
 {
-    place::<K>(line, out).answer
+    place::<K>(line, out).unwrap_or(no_room())
 }

@@ -10,52 +10,40 @@ ghost use Rattle.line.specs.Writing.{refused_text, fault_text, without_room};
 use quantity::Refusal;
 use text::Fault;
 
-// What was answered to a line: the number, 0 where the line is read, and how many bytes of the buffer were written.
+// What was answered to a line: the number, 0 where the line is read, and how many bytes of the buffer were written. The
+// number is no Refusal: it is the line's last column, and what is promised of an answer (`Placed`, `OneAnswerInto`) and of a tally is said by it.
 #[derive(Clone, Copy)]
 pub struct LineAnswer {
     pub code: u8,
     pub wrote: usize,
 }
 
-// The same, and whether the answer fitted in the buffer.
-#[derive(Clone, Copy)]
-pub struct Placing {
-    pub answer: LineAnswer,
-    pub fitted: bool,
-}
-
 // What is said where the buffer is too short.
-pub fn no_room() -> Placing
+pub fn no_room() -> LineAnswer
     ensures { result ≡ without_room }
 {
-    Placing {
-        answer: LineAnswer {
-            code: Refusal::BufferShort.number(),
-            wrote: 0,
-        },
-        fitted: false,
+    LineAnswer {
+        code: Refusal::BufferShort.number(),
+        wrote: 0,
     }
 }
 
 // Writes a text that stands for a line with this number, or nothing where the buffer is too short.
-pub fn place_text(number: u8, text: &[u8], out: &mut [u8]) -> Placing
+pub fn place_text(number: u8, text: &[u8], out: &mut [u8]) -> Option<LineAnswer>
     ensures { PlacedAs number text.now out.old out.new result }
 {
     if out.len() < text.len() {
-        return no_room();
+        return None;
     }
     text::put(out, 0, text);
-    Placing {
-        answer: LineAnswer {
-            code: number,
-            wrote: text.len(),
-        },
-        fitted: true,
-    }
+    Some(LineAnswer {
+        code: number,
+        wrote: text.len(),
+    })
 }
 
 // Writes the answer to a refused row: its names, a comma for each of the answer's own columns, and the number.
-pub fn place_refused(names: &[u8], commas: &[u8], number: u8, out: &mut [u8]) -> Placing
+pub fn place_refused(names: &[u8], commas: &[u8], number: u8, out: &mut [u8]) -> Option<LineAnswer>
     requires { (length names.now ≤ longest_line) × (length commas.now ≤ longest_line) }
     ensures { PlacedAs number (refused_text names.now commas.now number) out.old out.new result }
 {
@@ -64,7 +52,7 @@ pub fn place_refused(names: &[u8], commas: &[u8], number: u8, out: &mut [u8]) ->
     let after_commas = after_names + commas.len();
     let after_digits = after_commas + digits;
     if out.len() < after_digits + 2 {
-        return no_room();
+        return None;
     }
     text::put(out, 0, names);
     text::put(out, after_names, commas);
@@ -72,17 +60,14 @@ pub fn place_refused(names: &[u8], commas: &[u8], number: u8, out: &mut [u8]) ->
     text::put(out, after_digits, b"\r\n");
     let code = number;
     let wrote = after_digits + 2;
-    Placing {
-        answer: LineAnswer { code, wrote },
-        fitted: true,
-    }
+    Some(LineAnswer { code, wrote })
 }
 
 // Room for the two question marks and a number.
 const NAMES: usize = 24;
 
 // The number of the field that breaks its rule stands after the names, in the first own column.
-fn place_broken(field: usize, commas: &[u8], out: &mut [u8]) -> Placing
+fn place_broken(field: usize, commas: &[u8], out: &mut [u8]) -> Option<LineAnswer>
     requires { length commas.now ≤ longest_line }
     ensures { PlacedAs (number_of (refusal_of (Broken field))) (fault_text (Broken field) commas.now) out.old out.new result }
 {
@@ -93,7 +78,7 @@ fn place_broken(field: usize, commas: &[u8], out: &mut [u8]) -> Placing
 }
 
 // Writes the answer to a line that is no row: `commas` has a comma for each of the answer's own columns.
-pub fn place_fault(fault: Fault, commas: &[u8], out: &mut [u8]) -> Placing
+pub fn place_fault(fault: Fault, commas: &[u8], out: &mut [u8]) -> Option<LineAnswer>
     requires { length commas.now ≤ longest_line }
     ensures { PlacedAs (number_of (refusal_of fault)) (fault_text fault commas.now) out.old out.new result }
 {

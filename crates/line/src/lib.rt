@@ -6,5 +6,5 @@ mod lent;
 mod readings;
 
 pub use kind::{Kind, answer, place};
-pub use lent::{LineAnswer, Placing, place_fault, place_refused, place_text};
+pub use lent::{LineAnswer, no_room, place_fault, place_refused, place_text};
 pub use readings::Readings;

@@ -9,12 +9,12 @@ ghost use Rattle.line.specs.Readings.{readings};
 
 use crate::kind::Kind;
 use crate::lent;
-use crate::lent::{LineAnswer, Placing};
+use crate::lent::LineAnswer;
 use quantity::Celsius;
 use row::ReadingRow;
 
 // The names, a sign and a number, for a line that was read.
-fn put_read(names: &[u8], sign: &[u8], size: u64, out: &mut [u8]) -> Placing
+fn put_read(names: &[u8], sign: &[u8], size: u64, out: &mut [u8]) -> Option<LineAnswer>
     requires { (length names.now ≤ longest_line) × (length sign.now ≤ 1) }
     ensures { PlacedAs 0 (read_text names.now (sign.now ++ decimal size)) out.old out.new result }
 {
@@ -23,22 +23,19 @@ fn put_read(names: &[u8], sign: &[u8], size: u64, out: &mut [u8]) -> Placing
     let after_sign = after_names + sign.len();
     let after_digits = after_sign + digits;
     if out.len() < after_digits + 4 {
-        return lent::no_room();
+        return None;
     }
     text::put(out, 0, names);
     text::put(out, after_names, sign);
     text::put_digits(out, after_sign, size, digits);
     text::put(out, after_digits, b",0\r\n");
-    Placing {
-        answer: LineAnswer {
-            code: 0,
-            wrote: after_digits + 4,
-        },
-        fitted: true,
-    }
+    Some(LineAnswer {
+        code: 0,
+        wrote: after_digits + 4,
+    })
 }
 
-fn put_step(names: &[u8], step: Celsius, out: &mut [u8]) -> Placing
+fn put_step(names: &[u8], step: Celsius, out: &mut [u8]) -> Option<LineAnswer>
     requires { length names.now ≤ longest_line }
     ensures { PlacedAs 0 (read_text names.now (signed_decimal step.0)) out.old out.new result }
 {
@@ -68,7 +65,7 @@ impl Kind for Readings {
         b","
     }
 
-    fn answer_row(line: &[u8], row: ReadingRow, out: &mut [u8]) -> Placing {
+    fn answer_row(line: &[u8], row: ReadingRow, out: &mut [u8]) -> Option<LineAnswer> {
         let names = &line[..row.names];
         match reading::read(row.certificate, row.r, row.r0) {
             Ok(reading) => put_step(names, reading.step, out),

@@ -15,7 +15,7 @@ pub const MOST_HELD: usize = LONGEST_LINE + 2;
 // The place of the last of them.
 const LAST_HELD: usize = MOST_HELD - 1;
 
-// The byte before the one at i, which is the given last one before the first.
+// The byte before the one at i, which is the given last one before the first; a 0 there stands for no byte, and is no CR.
 fn byte_before(last: u8, s: &[u8], i: usize) -> u8
     requires { i ≤ length s.now }
     ensures { result ≡ byte_before last s.now i }
@@ -35,7 +35,8 @@ fn feed_in<const N: usize>(s: &[u8], i: usize) -> bool
     found
 }
 
-// Passes over sixteen bytes at a time that have no LF, from an offset on: a turn is a comparison of vectors.
+// Passes over sixteen bytes at a time that have no LF, from an offset on: a turn is a comparison of vectors. It answers an offset and no Option, since the
+// search goes on from there. It goes by the offset and not by chunks of the slice: of a chunk the compiler does not know that it has sixteen bytes.
 fn skip(s: &[u8], from: usize) -> usize
     requires { from ≤ length s.now }
     ensures { NoFeed s.now from result }
@@ -80,7 +81,8 @@ fn feed_from(s: &[u8], from: usize) -> usize
 }
 
 // The offset of the first LF that ends a line, or the length where there is none. `last` is the last byte of the partial line before s, 0 where that is empty.
-// Only at a LF is the byte before it looked at: most bytes are none.
+// Only at a LF is the byte before it looked at: most bytes are none. Each turn goes on after the LF that the last one found, so it is no `position` of one test; and
+// it answers an offset and no Option, since what is used of s ends there in both cases.
 pub fn line_end(last: u8, s: &[u8]) -> usize
     ensures { EndsAfter last s.now result }
 {

@@ -1,6 +1,6 @@
 -- Where feeding stands between two lines, and what it has done where it returns.
 use mathlib.Core.Path.{◌≡◌, refl, sym, ap, ap₂, ◌∙◌, subst}
-use mathlib.Core.Bool.{Bool, true, false, not}
+use mathlib.Core.Bool.{Bool, true, false}
 use mathlib.Core.List.{List, [], ◌∷◌, ◌++◌, append_assoc, append-nil}
 use native.Mathlib.Omega.{arith}
 use Prim.Native.Nat.{ℕ, ◌+◌, ◌-◌, ◌≤◌, ◌<◌}
@@ -9,6 +9,8 @@ use lib.ListN.{length, get_or, take, drop, length-append, length-drop, take-appe
 use lib.Seq.{length-take-le, take_all, get_or-take, drop-drop, take-append_seam, drop-append_seam}
 use borrow.Author.Tests.{leb-true, leb-false, lt-ltb, le-ltb}
 use borrow.Rule.Slice.PartMut.{put_mid}
+use Rattle.std.specs.Prelude.{None, Some}
+use Rattle.std.proofs.lemmas.Option.{none-some, same_Some}
 use Rattle.whole.specs.Choice.{if◌then◌otherwise◌}
 use Rattle.quantity.specs.Refusals.{number_of}
 use Rattle.quantity.specs.declared.refusal.Refusal.TheVariants.{BufferShort}
@@ -33,57 +35,51 @@ use Rattle.list.proofs.Dues.{due_more}
 
 -- ---- a reply
 -- It is written,
-pub record Written (g : Stage) (line out out' : List ℕ) (x : Reply) : Type 0 where
+pub record Written (g : Stage) (line out out' : List ℕ) (x : LineAnswer) (g' : Stage) : Type 0 where
   pub number : ℕ
   pub text : List ℕ
   pub due : Due g line number text
-  pub code : x.placing.answer.code ≡ number
-  pub wrote : x.placing.answer.wrote ≡ length text
+  pub code : x.code ≡ number
+  pub wrote : x.wrote ≡ length text
   pub fits : length text ≤ length out
   pub bytes : out' ≡ text ++ drop (length text) out
-  pub later : x.stage ≡ next g line
+  pub later : g' ≡ next g line
 
 -- or there is no room for it.
-pub record Short (g : Stage) (line out out' : List ℕ) (x : Reply) : Type 0 where
+pub record Short (g : Stage) (line out out' : List ℕ) : Type 0 where
   pub number : ℕ
   pub text : List ℕ
   pub due : Due g line number text
-  pub code : x.placing.answer.code ≡ number_of BufferShort
   pub no_room : length out < length text
   pub bytes : out' ≡ out
 
-turned : (t u : Bool) → not t ≡ u → t ≡ not u
-turned true u h = ap not h
-turned false u h = ap not h
+module _ (g : Stage) (line out out' : List ℕ) (r : Reply) where
+  pub replied-written : RepliedAs g line out out' r → (x : LineAnswer) → r.answer ≡ Some x → Written g line out out' x r.stage
+  replied-written (n, t, due, placed, later) x some = by (leb (length t) (length out)) refl placed
+    where
+      by : (b : Bool) → leb (length t) (length out) ≡ b
+          → (if b then (r.answer ≡ Some (record { code = n; wrote = length t })) × (out' ≡ t ++ drop (length t) out) otherwise (r.answer ≡ None) × (out' ≡ out)) → Written g line out out' x r.stage
+      by true room (p, q) =
+          let is : x ≡ record { code = n; wrote = length t } = same_Some x (record { code = n; wrote = length t }) (sym some ∙ p) in
+          record {
+            number = n;
+            text = t;
+            due = due;
+            code = ap (λ (a : LineAnswer). a.code) is;
+            wrote = ap (λ (a : LineAnswer). a.wrote) is;
+            fits = leb-true (length t) (length out) room;
+            bytes = q;
+            later = later;
+          }
+      by false short (p, q) = absurd (none-some x (sym p ∙ some))
 
-module _ (g : Stage) (line out out' : List ℕ) (x : Reply) where
-  pub replied-written : RepliedAs g line out out' x → not x.placing.fitted ≡ false → Written g line out out' x
-  replied-written (n, t, due, (placed, told), later) h =
-      let room : leb (length t) (length out) ≡ true = sym told ∙ turned x.placing.fitted false h in
-      let p : (x.placing.answer ≡ record { code = n; wrote = length t }) × (out' ≡ t ++ drop (length t) out) = rw room at placed in
-      record {
-        number = n;
-        text = t;
-        due = due;
-        code = ap (λ (a : LineAnswer). a.code) p.0;
-        wrote = ap (λ (a : LineAnswer). a.wrote) p.0;
-        fits = leb-true (length t) (length out) room;
-        bytes = p.1;
-        later = later;
-      }
-
-  pub replied-short : RepliedAs g line out out' x → not x.placing.fitted ≡ true → Short g line out out' x
-  replied-short (n, t, due, (placed, told), later) h =
-      let short : leb (length t) (length out) ≡ false = sym told ∙ turned x.placing.fitted true h in
-      let p : (x.placing.answer ≡ record { code = number_of BufferShort; wrote = 0 }) × (out' ≡ out) = rw short at placed in
-      record {
-        number = n;
-        text = t;
-        due = due;
-        code = ap (λ (a : LineAnswer). a.code) p.0;
-        no_room = leb-false (length t) (length out) short;
-        bytes = p.1;
-      }
+  pub replied-short : RepliedAs g line out out' r → r.answer ≡ None → Short g line out out'
+  replied-short (n, t, due, placed, later) none = by (leb (length t) (length out)) refl placed
+    where
+      by : (b : Bool) → leb (length t) (length out) ≡ b
+          → (if b then (r.answer ≡ Some (record { code = n; wrote = length t })) × (out' ≡ t ++ drop (length t) out) otherwise (r.answer ≡ None) × (out' ≡ out)) → Short g line out out'
+      by true room (p, q) = absurd (none-some (record { code = n; wrote = length t }) (sym none ∙ p))
+      by false short (p, q) = record { number = n; text = t; due = due; no_room = leb-false (length t) (length out) short; bytes = q }
 
 -- ---- a tally
 many_more : (such : ℕ → Bool) (numbers : List ℕ) (n : ℕ) → how_many such (numbers ++ (n ∷ [])) ≡ how_many such numbers + one_if (such n)
@@ -131,17 +127,17 @@ code_some : (used bytes : ℕ) → used < bytes → code_of used bytes ≡ numbe
 code_some used bytes h = rw (lt-ltb used bytes h)
 
 -- the place after one line more, in the bytes that were used and written
-abbrev pub next_place : Place → ℕ → Reply → Place
-next_place p used r = record { stage = r.stage; used = used; wrote = p.wrote + r.placing.answer.wrote; tally = with_line p.tally r.placing.answer.code }
+abbrev pub next_place : Place → ℕ → LineAnswer → Stage → Place
+next_place p used x g = record { stage = g; used = used; wrote = p.wrote + x.wrote; tally = with_line p.tally x.code }
 
-pub standing_more : {chunk out part out' line : List ℕ} {p : Place} {g : Stage} {used : ℕ} {r : Reply} → Standing chunk out p → p.used < used → used ≤ length chunk
-    → Written g line (drop p.wrote out) part r → length out' ≡ length out → Standing chunk out' (next_place p used r)
-standing_more {out = out} {p = p} {r = r} s onward within w long = record {
+pub standing_more : {chunk out part out' line : List ℕ} {p : Place} {g g' : Stage} {used : ℕ} {x : LineAnswer} → Standing chunk out p → p.used < used → used ≤ length chunk
+    → Written g line (drop p.wrote out) part x g' → length out' ≡ length out → Standing chunk out' (next_place p used x g')
+standing_more {out = out} {p = p} {x = x} s onward within w long = record {
   used = within;
   wrote = omega (arith, s.wrote, w.wrote, w.fits, length-drop p.wrote out);
   lines = omega (arith, s.lines);
-  refused = omega (arith, s.refused, one_most (is_refused r.placing.answer.code));
-  faulty = omega (arith, s.faulty, one_most (is_faulty r.placing.answer.code));
+  refused = omega (arith, s.refused, one_most (is_refused x.code));
+  faulty = omega (arith, s.faulty, one_most (is_faulty x.code));
 }
 
 -- Feeding has gone on from one place to another, whatever state and buffer it came from.
@@ -195,10 +191,10 @@ module _ {st : State} {chunk out₀ out : List ℕ} {p : Place} {i : ℕ} (a : A
     front-is = ap (λ (l : List ℕ). all_but_last (l ++ part)) a.nothing ∙ front_take i (drop p.used chunk) end.within
 
     -- before a line whose answer the buffer has no room for
-    pub fed-full : (out' rest : List ℕ) (r : Reply) (x : Fed) → HeldAs p part r.placing.answer.code x
-        → Short p.stage (take (i - 1) (drop p.used chunk)) (drop p.wrote out) rest r → out' ≡ take p.wrote out ++ rest → FedAs st chunk out₀ out' x
-    fed-full out' rest r x h short o =
-        held-there r.placing.answer.code out' x h (short.code ∙ sym (code_some (p.used + i) (length chunk) more)) (o ∙ ap (λ (l : List ℕ). take p.wrote out ++ l) short.bytes ∙ take-append-drop p.wrote out)
+    pub fed-full : (out' rest : List ℕ) (x : Fed) → HeldAs p part (number_of BufferShort) x
+        → Short p.stage (take (i - 1) (drop p.used chunk)) (drop p.wrote out) rest → out' ≡ take p.wrote out ++ rest → FedAs st chunk out₀ out' x
+    fed-full out' rest x h short o =
+        held-there (number_of BufferShort) out' x h (sym (code_some (p.used + i) (length chunk) more)) (o ∙ ap (λ (l : List ℕ). take p.wrote out ++ l) short.bytes ∙ take-append-drop p.wrote out)
         (λ k. record {
           ends = ap (λ (l : List ℕ). ends_line l (get_or chunk (p.used + i) 0)) (h.held ∙ ap capped (sym begun-is)) ∙ capped-ends (begun (line_of st) (take (p.used + i) chunk)) (get_or chunk (p.used + i) 0) ∙ ends-here (line_of st) chunk p.used i ending more;
           number = short.number;
@@ -211,9 +207,9 @@ module _ {st : State} {chunk out₀ out : List ℕ} {p : Place} {i : ℕ} (a : A
         })
 
     -- the next line is answered
-    pub at_more : (out' rest : List ℕ) (r : Reply) → Written p.stage (take (i - 1) (drop p.used chunk)) (drop p.wrote out) rest r → out' ≡ take p.wrote out ++ rest
-        → At st chunk out₀ out' (next_place p (p.used + i + 1) r)
-    at_more out' rest r w o =
+    pub at_more : (out' rest : List ℕ) (x : LineAnswer) (g : Stage) → Written p.stage (take (i - 1) (drop p.used chunk)) (drop p.wrote out) rest x g → out' ≡ take p.wrote out ++ rest
+        → At st chunk out₀ out' (next_place p (p.used + i + 1) x g)
+    at_more out' rest x g w o =
         let long : length (a.text ++ w.text) ≡ length a.text + length w.text = length-append a.text w.text in
         let first : take p.wrote out ≡ a.text = ap (take p.wrote) a.bytes ∙ ap (λ (n : ℕ). take n (a.text ++ drop (length a.text) out₀)) a.wrote ∙ take-append_seam a.text (drop (length a.text) out₀) in
         let others : drop p.wrote out ≡ drop (length a.text) out₀ = ap (drop p.wrote) a.bytes ∙ ap (λ (n : ℕ). drop n (a.text ++ drop (length a.text) out₀)) a.wrote ∙ drop-append_seam a.text (drop (length a.text) out₀) in
@@ -271,16 +267,16 @@ fed_long {st} {chunk} {out} f =
 
 -- ---- a line that was begun before the chunk
 -- the place after it, in the bytes that were used
-abbrev pub after_held : ℕ → Reply → Place
-after_held used r = record { stage = r.stage; used = used; wrote = r.placing.answer.wrote; tally = with_line (tally_of []) r.placing.answer.code }
+abbrev pub after_held : ℕ → LineAnswer → Stage → Place
+after_held used x g = record { stage = g; used = used; wrote = x.wrote; tally = with_line (tally_of []) x.code }
 
-pub standing_held : {chunk out out' line : List ℕ} {g : Stage} {used : ℕ} {r : Reply} → 1 ≤ used → used ≤ length chunk → Written g line out out' r → length out' ≡ length out → Standing chunk out' (after_held used r)
-standing_held {r = r} some within w long = record {
+pub standing_held : {chunk out out' line : List ℕ} {g g' : Stage} {used : ℕ} {x : LineAnswer} → 1 ≤ used → used ≤ length chunk → Written g line out out' x g' → length out' ≡ length out → Standing chunk out' (after_held used x g')
+standing_held {x = x} some within w long = record {
   used = within;
   wrote = omega (arith, w.wrote, w.fits);
   lines = omega arith;
-  refused = omega (arith, one_most (is_refused r.placing.answer.code));
-  faulty = omega (arith, one_most (is_faulty r.placing.answer.code));
+  refused = omega (arith, one_most (is_refused x.code));
+  faulty = omega (arith, one_most (is_faulty x.code));
 }
 
 module _ (st : State) (chunk out : List ℕ) (i : ℕ) (held : List ℕ) (count : ℕ) (end : EndsAt (line_of st) chunk i)
@@ -323,18 +319,18 @@ module _ (st : State) (chunk out : List ℕ) (i : ℕ) (held : List ℕ) (count 
     some-held = ends_some (take count held) (get_or chunk i 0) ends-line
 
     -- the buffer has no room for its answer
-    pub held-full : (out' : List ℕ) (r : Reply) → Short st.stage (all_but_last (take count held)) out out' r → FedAs st chunk out out' (still r.placing.answer.code)
-    held-full out' r short =
-        still-held r.placing.answer.code out' (short.code ∙ sym (code_some i (length chunk) more)) short.bytes
+    pub held-full : (out' : List ℕ) → Short st.stage (all_but_last (take count held)) out out' → FedAs st chunk out out' (still (number_of BufferShort))
+    held-full out' short =
+        still-held (number_of BufferShort) out' (sym (code_some i (length chunk) more)) short.bytes
         (λ k. record { ends = ends-line; number = short.number; text = short.text; due = short.due; no_room = omega (arith, short.no_room) })
 
     -- it is answered, and feeding goes on after it
-    pub held_at : (out' : List ℕ) (r : Reply) → Written st.stage (all_but_last (take count held)) out out' r → At st chunk out out' (after_held (i + 1) r)
-    held_at out' r w =
+    pub held_at : (out' : List ℕ) (x : LineAnswer) (g : Stage) → Written st.stage (all_but_last (take count held)) out out' x g → At st chunk out out' (after_held (i + 1) x g)
+    held_at out' x g w =
         let line = line_of st ++ take i chunk in
         let due : Due st.stage (all_but_last line) w.number w.text =
         capped-front line st.stage w.number w.text (subst (λ (l : List ℕ). Due st.stage (all_but_last l) w.number w.text) line-is w.due) in
-        let later : r.stage ≡ next st.stage (all_but_last line) = w.later ∙ ap (λ (l : List ℕ). next st.stage (all_but_last l)) line-is ∙ capped-next line st.stage in
+        let later : g ≡ next st.stage (all_but_last line) = w.later ∙ ap (λ (l : List ℕ). next st.stage (all_but_last l)) line-is ∙ capped-next line st.stage in
         record {
           within = omega arith;
           numbers = w.number ∷ [];

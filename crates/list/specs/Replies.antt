@@ -14,7 +14,7 @@ use Rattle.list.specs.Feeding.{Due, DueToAll, next, line_of, FedAs}
 -- What answering a line at a stage promises.
 abbrev pub RepliedAs : Stage → List ℕ → List ℕ → List ℕ → Reply → Type 0
 RepliedAs stage line out out' x =
-    (number : ℕ) × (text : List ℕ) × Due stage line number text × PlacedAs number text out out' x.placing × (x.stage ≡ next stage line)
+    (number : ℕ) × (text : List ℕ) × Due stage line number text × PlacedAs number text out out' x.answer × (x.stage ≡ next stage line)
 
 -- A place lies within a chunk and a buffer, and no more lines have ended than bytes are used.
 pub record Standing (chunk out : List ℕ) (p : Place) : Type 0 where

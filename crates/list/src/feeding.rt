@@ -8,11 +8,12 @@ ghost use Rattle.list.specs.Replies.{Standing, HeldAs, FedOn};
 use crate::replies::{reply_to, wrong_header};
 use crate::state::{Stage, State};
 use crate::tally::{Tally, no_lines};
-use line::LineAnswer;
+use line::{LineAnswer, no_room};
 use lines::MOST_HELD;
+use quantity::Refusal;
 
 // What a feeding did: the new state, how many bytes of the chunk it used and how many of the buffer it wrote, the tally of the lines that ended, and the
-// code: 11 where it left bytes of the chunk because the buffer was too short for a line's answer, else 0.
+// code: 11 where it left bytes of the chunk because the buffer was too short for a line's answer, else 0. `FedAs` says it in numbers, as of a line.
 #[derive(Clone, Copy)]
 pub struct Fed {
     pub state: State,
@@ -38,15 +39,15 @@ fn hold(before: [u8; MOST_HELD], place: Place, part: &[u8], code: u8) -> Fed
 {
     let mut held = before;
     let count = lines::append(&mut held, 0, part);
-    let stage = place.stage;
-    let tally = place.tally;
-    let used = place.used + part.len();
-    let wrote = place.wrote;
     Fed {
-        state: State { held, count, stage },
-        used,
-        wrote,
-        tally,
+        state: State {
+            held,
+            count,
+            stage: place.stage,
+        },
+        used: place.used + part.len(),
+        wrote: place.wrote,
+        tally: place.tally,
         code,
     }
 }
@@ -57,6 +58,7 @@ fn feed_on(held: [u8; MOST_HELD], first: Place, chunk: &[u8], out: &mut [u8]) ->
     ensures { FedOn first chunk.now out.old out.new result }
 {
     let mut place = first;
+    // No iterator of lines: where the buffer is full, feeding ends with how much of the chunk is used, and the caller goes on from there.
     while place.used < chunk.len() {
         let from = place.used;
         let at = place.wrote;
@@ -64,19 +66,20 @@ fn feed_on(held: [u8; MOST_HELD], first: Place, chunk: &[u8], out: &mut [u8]) ->
         if end == chunk.len() {
             return hold(held, place, &chunk[from..], 0);
         }
-        let stage = place.stage;
-        let r = reply_to(stage, &chunk[from..end - 1], &mut out[at..]);
-        let x = r.placing;
-        if !x.fitted {
-            return hold(held, place, &chunk[from..end], x.answer.code);
-        }
-        let next = r.stage;
-        let tally = place.tally;
+        let reply = reply_to(place.stage, &chunk[from..end - 1], &mut out[at..]);
+        let Some(x) = reply.answer else {
+            return hold(
+                held,
+                place,
+                &chunk[from..end],
+                Refusal::BufferShort.number(),
+            );
+        };
         place = Place {
-            stage: next,
+            stage: reply.stage,
             used: end + 1,
-            wrote: at + x.answer.wrote,
-            tally: tally.with_line(x.answer.code),
+            wrote: at + x.wrote,
+            tally: place.tally.with_line(x.code),
         };
     }
     hold(held, place, b"", 0)
@@ -86,10 +89,7 @@ fn feed_on(held: [u8; MOST_HELD], first: Place, chunk: &[u8], out: &mut [u8]) ->
 pub fn held_count(count: usize) -> usize
     ensures { result ≡ (if leb count most_held then count otherwise most_held) }
 {
-    if count <= MOST_HELD {
-        return count;
-    }
-    MOST_HELD
+    count.min(MOST_HELD)
 }
 
 // Feeds a chunk where the first `begun` bytes are what is held of a partial line.
@@ -110,23 +110,21 @@ fn feed_held(state: State, begun: usize, chunk: &[u8], out: &mut [u8]) -> Fed
             code: 0,
         };
     }
-    let r = reply_to(stage, &held[..count - 1], out);
-    let x = r.placing;
-    if !x.fitted {
+    let reply = reply_to(stage, &held[..count - 1], out);
+    let Some(x) = reply.answer else {
         return Fed {
             state: State { held, count, stage },
             used: end,
             wrote: 0,
             tally: no_lines(),
-            code: x.answer.code,
+            code: Refusal::BufferShort.number(),
         };
-    }
-    let next = r.stage;
+    };
     let place = Place {
-        stage: next,
+        stage: reply.stage,
         used: end + 1,
-        wrote: x.answer.wrote,
-        tally: no_lines().with_line(x.answer.code),
+        wrote: x.wrote,
+        tally: no_lines().with_line(x.code),
     };
     feed_on(held, place, chunk, out)
 }
@@ -137,15 +135,13 @@ pub fn feed(state: State, chunk: &[u8], out: &mut [u8]) -> Fed
 {
     let begun = held_count(state.count);
     if begun == 0 {
-        let held = state.held;
-        let stage = state.stage;
         let place = Place {
-            stage,
+            stage: state.stage,
             used: 0,
             wrote: 0,
             tally: no_lines(),
         };
-        return feed_on(held, place, chunk, out);
+        return feed_on(state.held, place, chunk, out);
     }
     feed_held(state, begun, chunk, out)
 }
@@ -155,10 +151,7 @@ fn nothing_begun(stage: Stage, out: &mut [u8]) -> LineAnswer
     ensures { EndedWith stage [] out.old out.new result }
 {
     match stage {
-        Stage::Header(desk) => {
-            let x = wrong_header(desk, out);
-            x.answer
-        }
+        Stage::Header(desk) => wrong_header(desk, out).unwrap_or(no_room()),
         Stage::Rows(_) => LineAnswer { code: 0, wrote: 0 },
         Stage::Stopped => LineAnswer { code: 0, wrote: 0 },
     }
@@ -168,13 +161,11 @@ fn nothing_begun(stage: Stage, out: &mut [u8]) -> LineAnswer
 pub fn finish(state: State, out: &mut [u8]) -> LineAnswer
     ensures { EndedAs state out.old out.new result }
 {
-    let stage = state.stage;
     let count = held_count(state.count);
     if count == 0 {
-        return nothing_begun(stage, out);
+        return nothing_begun(state.stage, out);
     }
-    let held = state.held;
-    let r = reply_to(stage, &held[..count], out);
-    let x = r.placing;
-    x.answer
+    reply_to(state.stage, &state.held[..count], out)
+        .answer
+        .unwrap_or(no_room())
 }

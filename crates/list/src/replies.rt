@@ -9,18 +9,18 @@ ghost use Rattle.list.specs.Replies.{RepliedAs};
 use crate::kinds::{Desk, Kind};
 use crate::state::Stage;
 use bench::{Records, RecordsByResistances, Steps, Tolerances};
-use line::{LineAnswer, Placing, Readings};
+use line::{LineAnswer, Readings};
 use quantity::Refusal;
 
-// What was answered to a line, and what comes after it.
+// What was answered to a line, if there was room for it, and what comes after it.
 #[derive(Clone, Copy)]
 pub struct Reply {
-    pub placing: Placing,
+    pub answer: Option<LineAnswer>,
     pub stage: Stage,
 }
 
 // To a wrong header.
-pub fn wrong_header(desk: Desk, out: &mut [u8]) -> Placing
+pub fn wrong_header(desk: Desk, out: &mut [u8]) -> Option<LineAnswer>
     ensures { PlacedAs (number_of WrongHeader) (wrong_header desk) out.old out.new result }
 {
     let number = Refusal::WrongHeader.number();
@@ -35,17 +35,17 @@ fn header_reply(desk: Desk, line: &[u8], out: &mut [u8]) -> Reply
 {
     match desk.headed(line) {
         Some(kind) => Reply {
-            placing: line::place_text(0, kind.answer_header(), out),
+            answer: line::place_text(0, kind.answer_header(), out),
             stage: Stage::Rows(kind),
         },
         None => Reply {
-            placing: wrong_header(desk, out),
+            answer: wrong_header(desk, out),
             stage: Stage::Stopped,
         },
     }
 }
 
-fn place_row(kind: Kind, line: &[u8], out: &mut [u8]) -> Placing
+fn place_row(kind: Kind, line: &[u8], out: &mut [u8]) -> Option<LineAnswer>
     ensures { AnsweredAs (kind_of kind) line.now out.old out.new result }
 {
     match kind {
@@ -63,14 +63,11 @@ pub fn reply_to(stage: Stage, line: &[u8], out: &mut [u8]) -> Reply
     match stage {
         Stage::Header(desk) => header_reply(desk, line, out),
         Stage::Rows(kind) => Reply {
-            placing: place_row(kind, line, out),
+            answer: place_row(kind, line, out),
             stage: Stage::Rows(kind),
         },
         Stage::Stopped => Reply {
-            placing: Placing {
-                answer: LineAnswer { code: 0, wrote: 0 },
-                fitted: true,
-            },
+            answer: Some(LineAnswer { code: 0, wrote: 0 }),
             stage: Stage::Stopped,
         },
     }

@@ -40,11 +40,7 @@ impl Tally {
     {
         let lines = self.lines + 1;
         if number == 0 {
-            return Tally {
-                lines,
-                refused: self.refused,
-                faulty: self.faulty,
-            };
+            return Tally { lines, ..self };
         }
         let refused = self.refused + 1;
         if is_faulty(number) {
@@ -57,7 +53,7 @@ impl Tally {
         Tally {
             lines,
             refused,
-            faulty: self.faulty,
+            ..self
         }
     }
 }

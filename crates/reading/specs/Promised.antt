@@ -16,6 +16,7 @@ use Rattle.curve.specs.Promised.{Bracketed}
 use Rattle.deviation.specs.declared.places.Places.{Places}
 use Rattle.deviation.specs.Limits.{Limited}
 use Rattle.deviation.specs.Exact.{exact_wr}
+use Rattle.quantity.specs.declared.resistance.Ratio.{Ratio}
 use Rattle.certificate.specs.declared.record.Record.{Record}
 use Rattle.certificate.specs.declared.soundness.Given.{Given}
 use Rattle.certificate.specs.declared.soundness.Certificate.{Certificate}
@@ -82,7 +83,7 @@ ForwardAsGiven = (k : Certificate) (step : ℤ) (o : Outcome LawAndRatio) → Fo
 
 -- A certificate that a record yielded is never refused by 3 or 7.
 abbrev pub Yielded : Certificate → Type 0
-Yielded k = (ratios : Record) × Follows (record_rule ratios) (answered (held k))
+Yielded k = (ratios : Record Ratio) × Follows (record_rule ratios) (answered (held k))
 
 abbrev pub YieldedReads : Type 0
 YieldedReads =

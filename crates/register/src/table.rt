@@ -19,7 +19,7 @@ pub fn find(entries: &[Entry], number: u64) -> usize
     place(entries, number).unwrap_or(entries.len())
 }
 
-// What the table has of a number, or a free place.
+// What the table has of a number, or a free place where it has nothing: the promises of a table are made with that entry (`entry_of`).
 pub fn lookup(table: &[Entry], number: u64) -> Entry
     ensures { result ≡ entry_of table.now number }
 {

@@ -13,7 +13,7 @@ use std::fmt::Write;
 
 // ---- entries
 
-// Six good certificates.
+// Six good certificates. Which of them is meant is a drawn number, here and below: an enum would be made of it only to be matched.
 fn good(which: u64) -> Given {
     match which {
         0 => given_by(CURVE, 0, 0, 0, 0, 0),

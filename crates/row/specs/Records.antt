@@ -1,6 +1,7 @@
 -- A list of records of cell ratios: its columns, and what a row says.
 use Rattle.std.specs.Prelude.{List, [], ◌∷◌, ℕ, Result}
 use Rattle.text.specs.declared.columns.Fault.{Fault}
+use Rattle.quantity.specs.declared.resistance.Ratio.{Ratio}
 use Rattle.certificate.specs.declared.record.Record.{Record}
 use Rattle.text.specs.declared.columns.Holds.TheVariants.{Id, Name, Natural}
 use Rattle.text.specs.Columns.{Column, ◌holds◌, Value, values, name_at, count_at, names_length}
@@ -21,7 +22,7 @@ columns =
     ∷ "ag" holds Natural digits
     ∷ []
 
-abbrev pub record_from : List Value → Record
+abbrev pub record_from : List Value → Record Ratio
 record_from row = record {
   subrange = record { 0 = name_at 1 row };
   mercury = record { 0 = count_at 2 row };

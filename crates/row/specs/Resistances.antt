@@ -2,7 +2,7 @@
 use Rattle.std.specs.Prelude.{List, [], ◌∷◌, ℕ, Result}
 use Rattle.text.specs.declared.columns.Fault.{Fault}
 use Rattle.certificate.specs.declared.resistances.Pair.{Pair}
-use Rattle.certificate.specs.declared.resistances.Resistances.{Resistances}
+use Rattle.certificate.specs.declared.record.Record.{Record}
 use Rattle.text.specs.declared.columns.Holds.TheVariants.{Id, Name, Natural}
 use Rattle.text.specs.Columns.{Column, ◌holds◌, Value, values, name_at, count_at, names_length}
 use Rattle.text.specs.Numbers.{is_number, value_of}
@@ -47,7 +47,7 @@ pair_at line from =
     let r0 = scanned_at (is_number limits.digits) value_of line r.next in
     record { value = pair_of r.value r0.value; next = r0.next }
 
-abbrev pub resistances_from : List Value → Resistances
+abbrev pub resistances_from : List Value → Record Pair
 resistances_from row = record {
   subrange = record { 0 = name_at 1 row };
   mercury = pair_of (count_at 2 row) (count_at 3 row);

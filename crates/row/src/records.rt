@@ -25,7 +25,7 @@ const COLUMNS: [Holds; 9] = [
 #[derive(Clone, Copy)]
 pub struct RecordRow {
     pub names: usize,
-    pub cells: Record,
+    pub cells: Record<Ratio>,
 }
 
 impl Row for RecordRow {

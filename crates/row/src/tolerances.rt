@@ -15,7 +15,7 @@ const COLUMNS: [Holds; 5] = [
     Holds::Natural(RESISTANCE_DIGITS),
 ];
 
-// `names` is how many bytes the first two fields take, with the comma after each.
+// `names` is how many bytes the first two fields take, with the comma after each. The class is the letter that is given: one that names none is refused later.
 #[derive(Clone, Copy)]
 pub struct ToleranceRow {
     pub names: usize,

@@ -82,7 +82,7 @@ pub fn resistances(out: &impl Print, tally: &mut Tally) {
 
 // ---- tolerances
 
-// The class, the bath in degrees, and the printed limit in hundredths of a degree.
+// The class by its letter, as `tolerance_test` takes it, the bath in degrees, and the printed limit in hundredths of a degree.
 const LIMITS: [(u8, i16, u16); 23] = [
     (b'A', -200, 0_55),
     (b'A', -100, 0_35),

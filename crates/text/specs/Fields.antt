@@ -16,7 +16,7 @@ later (b ∷ s) = if eqb b (code ",") then field s ∷ later s otherwise later s
 abbrev pub fields : List ℕ → List (List ℕ)
 fields line = field line ∷ later line
 
--- What rules of fields are made of: so many bytes, and every byte of one kind (`every` of `whole`).
+-- What rules of fields are made of: so many bytes, and every byte of one kind (`list_all` of the library).
 abbrev pub sized : ℕ → ℕ → List ℕ → Bool
 sized least most s = leb least (length s) && leb (length s) most
 

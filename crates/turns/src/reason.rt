@@ -6,6 +6,17 @@ use std::{fmt, io};
 // What stands before the number.
 const BEFORE_NUMBER: &str = " (os error ";
 
+// The text of the bytes, up to the first that is no character, as one is that was cut.
+fn text_in(bytes: &[u8]) -> &str {
+    match str::from_utf8(bytes) {
+        Ok(text) => text,
+        Err(why) => match bytes.get(..why.valid_up_to()) {
+            Some(good) => str::from_utf8(good).unwrap_or(""),
+            None => "",
+        },
+    }
+}
+
 #[derive(Clone, Copy)]
 pub struct Reason<'a>(pub &'a io::Error);
 
@@ -14,7 +25,7 @@ impl<'a> Display for Reason<'a> {
         let why = self.0;
         let mut said = Kept::new();
         write!(said, "{why}")?;
-        let text = str::from_utf8(said.as_slice()).unwrap_or("");
+        let text = text_in(said.as_slice());
         match text.split_once(BEFORE_NUMBER) {
             Some((words, _)) => f.write_str(words),
             None => f.write_str(text),

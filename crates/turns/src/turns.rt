@@ -51,6 +51,7 @@ impl<'a, O: Print, P: Print + IsTerminal> Run<'a, O, P> {
         if matches!(self.state.stage, Stage::Header(_)) {
             self.first.keep(chunk);
         }
+        // Each feeding says how much of the chunk it used, so this is a loop by what is left.
         let mut rest = chunk;
         while !rest.is_empty() {
             let fed = list::feed(self.state, rest, out);
@@ -106,7 +107,8 @@ impl<'a, O: Print, P: Print + IsTerminal> Run<'a, O, P> {
     }
 }
 
-// Answers a list, input to output, and says to people what is to be said. Whether the header was right and all was read and written.
+// Answers a list, input to output, and says to people what is to be said. Whether the header was right and all was read and written: a
+// failure has been said by then, and all that is left of it is the status.
 pub fn answer<P: Print + IsTerminal>(
     input: &mut impl Read,
     output: &impl Print,

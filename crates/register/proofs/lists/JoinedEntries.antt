@@ -4,14 +4,11 @@ use mathlib.Core.Bool.{Bool, true, false, true≢false, ◌&&◌, not}
 use Prim.Native.Nat.{ℕ, ◌<◌, ◌≤◌, max}
 use native.Mathlib.Decide.{dec_lt}
 use native.Mathlib.Omega.{arith}
-use borrow.Author.Tests.{eqb-true, eq-eqb, lt-ltb, le-ltb, ltb-true, ltb-false, not-true}
+use borrow.Author.Tests.{eqb-true, eq-eqb, lt-ltb, le-ltb, ltb-true, ltb-false}
 use lib.Dec.{eqb, ltb}
 use lib.IntN.{ℤ}
-use lib.Signed.{lt_z}
 use Rattle.whole.specs.Choice.{if◌then◌otherwise◌}
 use Rattle.whole.proofs.Choice.{and_true}
-use Rattle.whole.proofs.Machine.{lt_no, no_lt}
-use Rattle.whole.proofs.Parts.{ints}
 use Rattle.std.specs.Ordering.{int_eq}
 use Rattle.std.proofs.lemmas.Bool.Decides.{Decides-int_eq}
 use Rattle.entry.specs.declared.entry.Entry.{Entry}

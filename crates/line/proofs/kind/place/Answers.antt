@@ -1,4 +1,3 @@
-use mathlib.Core.Path.{subst, sym}
 use Rattle.row.proofs.Read.{is_row, is-fault}
 use Rattle.line.proofs.Answers.{faulty}
 use Rattle.line.proofs.kind.place.Goals as goal

@@ -2,8 +2,8 @@ use lib.ListN.{length}
 use Prim.Native.Nat.{ℕ, ◌+◌, ◌≤◌}
 use native.Mathlib.Omega.{arith}
 use mathlib.Core.List.{List, ◌++◌, append_assoc}
-use mathlib.Core.Bool.{true}
 use mathlib.Core.Path.{refl, subst}
+use Rattle.std.specs.Prelude.{Some}
 use Rattle.whole.specs.Text.{ascii}
 use Rattle.text.specs.Decimal.{decimal}
 use Rattle.text.proofs.Decimals.{word-digits}
@@ -43,5 +43,5 @@ returns c =
       end_is = refl;
       fits = c.if-out-after_digits.false;
     } in
-    subst (λ (t : List ℕ). PlacedAs 0 (t ++ ascii ",0\r\n") s.out.now c.put-3.new.out (record { answer = record { code = 0; wrote = wrote }; fitted = true })) (append_assoc s.names.now s.sign.now (decimal s.size))
+    subst (λ (t : List ℕ). PlacedAs 0 (t ++ ascii ",0\r\n") s.out.now c.put-3.new.out (Some (record { code = 0; wrote = wrote }))) (append_assoc s.names.now s.sign.now (decimal s.size))
     (placed_four 0 written)

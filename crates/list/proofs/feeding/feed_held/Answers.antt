@@ -48,20 +48,20 @@ returns-then-end-chunk c =
     rw c.no_lines.ensures (held-begun st c.args.chunk.now c.args.out.now i held count e.here e.line-is c.if-end-chunk.true)
 
 -- its answer has no room
-pub returns-then-not-x : goal.returns-then-not-x
-returns-then-not-x c =
+pub returns-in_default : goal.returns-in_default
+returns-in_default c =
     let st = c.args.state in
     let chunk = c.args.chunk.now in
     let out = c.args.out.now in
     let held = c.append-count.new.held in
     let i = c.line_end-end.result in
     let count = c.append-count.result in
-    let left = c.reply_to-r.new.out in
-    let x = c.reply_to-r.result in
+    let left = c.reply_to-reply.new.out in
+    let r = c.reply_to-reply.result in
     let e = ends st chunk held c.args.begun i count (search rules) c.requires c.line_end-end.ensures c.append-count.ensures c.append-count.auto.held in
     let more : i < length chunk = omega (arith, e.here.within, c.if-end-chunk.false) in
-    let short = replied-short st.stage (all_but_last (take count held)) out left x (reply st.stage held out left count x e.long c.reply_to-r.ensures) c.if-not-x.true in
-    rw c.no_lines-then-not-x.ensures (held-full st chunk out i held count e.here e.line-is more left x short)
+    let short = replied-short st.stage (all_but_last (take count held)) out left r (reply st.stage held out left count r e.long c.reply_to-reply.ensures) c.in_default.is in
+    rw (c.no_lines-in_default.ensures, c.number.ensures) (held-full st chunk out i held count e.here e.line-is more left short)
 
 -- it is answered
 pub overflow_add-place : goal.overflow_add-place
@@ -78,13 +78,14 @@ feed_on-requires c =
     let held = c.append-count.new.held in
     let i = c.line_end-end.result in
     let count = c.append-count.result in
-    let left = c.reply_to-r.new.out in
-    let x = c.reply_to-r.result in
+    let left = c.reply_to-reply.new.out in
+    let r = c.reply_to-reply.result in
+    let x = c.in-Some.x in
     let e = ends st chunk held c.args.begun i count (search rules) c.requires c.line_end-end.ensures c.append-count.ensures c.append-count.auto.held in
     let more : i < length chunk = omega (arith, e.here.within, c.if-end-chunk.false) in
-    let written = replied-written st.stage (all_but_last (take count held)) out left x (reply st.stage held out left count x e.long c.reply_to-r.ensures) c.if-not-x.false in
-    let tally-is : c.with_line.result ≡ with_line (tally_of []) x.placing.answer.code = c.with_line.ensures ∙ rw c.no_lines-2.ensures in
-    rw tally-is (standing_held (omega arith) (omega (arith, more)) written c.reply_to-r.auto.out)
+    let written = replied-written st.stage (all_but_last (take count held)) out left r (reply st.stage held out left count r e.long c.reply_to-reply.ensures) x c.in-Some.is in
+    let tally-is : c.with_line.result ≡ with_line (tally_of []) x.code = c.with_line.ensures ∙ rw c.no_lines-2.ensures in
+    rw tally-is (standing_held (omega arith) (omega (arith, more)) written c.reply_to-reply.auto.out)
 
 pub returns : goal.returns
 returns c =
@@ -94,10 +95,11 @@ returns c =
     let held = c.append-count.new.held in
     let i = c.line_end-end.result in
     let count = c.append-count.result in
-    let left = c.reply_to-r.new.out in
-    let x = c.reply_to-r.result in
+    let left = c.reply_to-reply.new.out in
+    let r = c.reply_to-reply.result in
+    let x = c.in-Some.x in
     let e = ends st chunk held c.args.begun i count (search rules) c.requires c.line_end-end.ensures c.append-count.ensures c.append-count.auto.held in
     let more : i < length chunk = omega (arith, e.here.within, c.if-end-chunk.false) in
-    let written = replied-written st.stage (all_but_last (take count held)) out left x (reply st.stage held out left count x e.long c.reply_to-r.ensures) c.if-not-x.false in
-    let tally-is : c.with_line.result ≡ with_line (tally_of []) x.placing.answer.code = c.with_line.ensures ∙ rw c.no_lines-2.ensures in
-    c.feed_on.ensures st out (rw tally-is (held_at st chunk out i held count e.here e.line-is more left x written))
+    let written = replied-written st.stage (all_but_last (take count held)) out left r (reply st.stage held out left count r e.long c.reply_to-reply.ensures) x c.in-Some.is in
+    let tally-is : c.with_line.result ≡ with_line (tally_of []) x.code = c.with_line.ensures ∙ rw c.no_lines-2.ensures in
+    c.feed_on.ensures st out (rw tally-is (held_at st chunk out i held count e.here e.line-is more left x r.stage written))

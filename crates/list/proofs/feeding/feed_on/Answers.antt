@@ -6,6 +6,8 @@ use native.Mathlib.Omega.{arith}
 use Prim.Native.Nat.{ℕ, ◌+◌, ◌-◌, ◌≤◌, ◌<◌}
 use lib.ListN.{length, take, drop, length-append, length-drop}
 use lib.Seq.{take_all, length-take-le}
+use Rattle.quantity.specs.Refusals.{number_of}
+use Rattle.quantity.specs.declared.refusal.Refusal.TheVariants.{BufferShort}
 use Rattle.lines.specs.Ends.{EndsAt}
 use Rattle.lines.specs.Lines.{last_byte}
 use Rattle.lines.proofs.Lines.{ends_after_some}
@@ -84,8 +86,8 @@ slice_bounds-reply_to-end c =
     let e = ends c.args.chunk.now p.used c.line_end.result c.loop-place.invariant.standing.used c.line_end.ensures in
     omega (arith, e.within, c.if-end-chunk.false)
 
-pub slice_bounds-hold-end-then-not-x : goal.slice_bounds-hold-end-then-not-x
-slice_bounds-hold-end-then-not-x c =
+pub slice_bounds-hold-end-in_default : goal.slice_bounds-hold-end-in_default
+slice_bounds-hold-end-in_default c =
     let p = c.loop-place.place in
     let e = ends c.args.chunk.now p.used c.line_end.result c.loop-place.invariant.standing.used c.line_end.ensures in
     omega (arith, e.within, c.if-end-chunk.false)
@@ -107,19 +109,19 @@ returns-then-end-chunk c st before at =
     (subst (λ (s : List ℕ). HeldAs p s 0 c.hold.result) (held_whole chunk p.used i c.if-end-chunk.true) c.hold.ensures) c.if-end-chunk.true
 
 -- a line whose answer has no room
-pub returns-then-not-x : goal.returns-then-not-x
-returns-then-not-x c st before at =
+pub returns-in_default : goal.returns-in_default
+returns-in_default c st before at =
     let p = c.loop-place.place in
     let chunk = c.args.chunk.now in
     let out = c.loop-place.out in
-    let left = c.reply_to-r.new.out in
+    let left = c.reply_to-reply.new.out in
     let i = c.line_end.result in
-    let x = c.reply_to-r.result in
+    let r = c.reply_to-reply.result in
     let e = ends chunk p.used i c.loop-place.invariant.standing.used c.line_end.ensures in
     let more : p.used + i < length chunk = omega (arith, e.within, c.if-end-chunk.false) in
-    fed-full (c.loop-place.invariant.at st before at) e.here more (put_mid p.wrote (length out - p.wrote) out left) left x c.hold-then-not-x.result
-    (subst (λ (s : List ℕ). HeldAs p s x.placing.answer.code c.hold-then-not-x.result) (held_part chunk p.used i) c.hold-then-not-x.ensures)
-    (replied-short p.stage (take (i - 1) (drop p.used chunk)) (drop p.wrote out) left x (reply p.stage chunk out left p.used p.wrote i x c.reply_to-r.ensures) c.if-not-x.true)
+    fed-full (c.loop-place.invariant.at st before at) e.here more (put_mid p.wrote (length out - p.wrote) out left) left c.hold-in_default.result
+    (subst (λ (s : List ℕ). HeldAs p s (number_of BufferShort) c.hold-in_default.result) (held_part chunk p.used i) (rw (sym c.number.ensures) c.hold-in_default.ensures))
+    (replied-short p.stage (take (i - 1) (drop p.used chunk)) (drop p.wrote out) left r (reply p.stage chunk out left p.used p.wrote i r c.reply_to-reply.ensures) c.in_default.is)
     (put_last p.wrote out left c.loop-place.invariant.standing.wrote)
 
 -- a line that is answered
@@ -128,19 +130,20 @@ loop-place-preserved c =
     let p = c.loop-place.place in
     let chunk = c.args.chunk.now in
     let out = c.loop-place.out in
-    let left = c.reply_to-r.new.out in
+    let left = c.reply_to-reply.new.out in
     let i = c.line_end.result in
-    let x = c.reply_to-r.result in
+    let r = c.reply_to-reply.result in
+    let x = c.in-Some.x in
     let so = c.loop-place.invariant in
     let buffer = put_mid p.wrote (length out - p.wrote) out left in
-    let long : length buffer ≡ length out = buffer_long out left p.wrote so.standing.wrote c.reply_to-r.auto.out in
+    let long : length buffer ≡ length out = buffer_long out left p.wrote so.standing.wrote c.reply_to-reply.auto.out in
     let e = ends chunk p.used i so.standing.used c.line_end.ensures in
     let more : p.used + i < length chunk = omega (arith, e.within, c.if-end-chunk.false) in
-    let written = replied-written p.stage (take (i - 1) (drop p.used chunk)) (drop p.wrote out) left x (reply p.stage chunk out left p.used p.wrote i x c.reply_to-r.ensures) c.if-not-x.false in
-    let on : Going chunk c.args.out.now buffer c.args.first (next_place p (p.used + i + 1) x) = record {
+    let written = replied-written p.stage (take (i - 1) (drop p.used chunk)) (drop p.wrote out) left r (reply p.stage chunk out left p.used p.wrote i r c.reply_to-reply.ensures) x c.in-Some.is in
+    let on : Going chunk c.args.out.now buffer c.args.first (next_place p (p.used + i + 1) x r.stage) = record {
       standing = standing_more so.standing (omega arith) (omega (arith, more)) written long;
       long = long ∙ so.long;
-      at = λ st before a. at_more (so.at st before a) e.here more buffer left x written (put_last p.wrote out left so.standing.wrote);
+      at = λ st before a. at_more (so.at st before a) e.here more buffer left x r.stage written (put_last p.wrote out left so.standing.wrote);
     } in
     rw c.with_line.ensures on
 

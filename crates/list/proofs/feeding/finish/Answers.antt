@@ -1,3 +1,4 @@
+use Rattle.line.proofs.Buffers.{placed-or-short}
 use Rattle.list.proofs.Feeds.{held_is, due-last}
 use Rattle.lines.specs.Held.{most_held}
 use Rattle.list.specs.Feeding.{line_of, EndedWith}
@@ -18,7 +19,7 @@ returns c =
     let known = held-known in
     let long : length st.held ≡ most_held = search rules in
     let n = c.held_count-count.result in
-    let r = c.reply_to-r.ensures in
+    let r = c.reply_to.ensures in
     let some : 1 ≤ length (take n st.held) = rw (length-take-le n st.held (omega (arith, known.0))) (omega arith) in
-    subst (λ (l : List ℕ). EndedWith st.stage l c.args.out.now c.reply_to-r.new.out c.reply_to-r.result.placing.answer) (sym known.1)
-    (r.0, r.1, due-last st.stage (take n st.held) r.0 r.1 some r.2, r.3.0)
+    subst (λ (l : List ℕ). EndedWith st.stage l c.args.out.now c.reply_to.new.out c.unwrap_or.result) (sym known.1)
+    (r.0, r.1, due-last st.stage (take n st.held) r.0 r.1 some r.2, rw (c.unwrap_or.ensures, c.no_room.ensures) (placed-or-short r.0 r.1 c.args.out.now c.reply_to.new.out c.reply_to.result.answer r.3))

@@ -1,4 +1,4 @@
-use Rattle.std.proofs.Common.{◌≡◌, ◌-◌, length, drop}
+use Rattle.std.proofs.Common.{◌≡◌, drop}
 use Rattle.examination.specs.Testing.{nothing_noted}
 use Rattle.register.proofs.lists.GatheredTests.{noted_from}
 use Rattle.register.proofs.imports.check.Given as goal

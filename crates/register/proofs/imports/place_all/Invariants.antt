@@ -1,4 +1,4 @@
-use Rattle.std.proofs.Common.{◌≡◌, ◌-◌, length, drop}
+use Rattle.std.proofs.Common.{◌≡◌, drop}
 use Rattle.register.specs.Import.{placed_all}
 use Rattle.register.proofs.imports.place_all.Given as goal
 

@@ -1,4 +1,4 @@
-use Rattle.std.proofs.Common.{◌≡◌, ◌≤◌, ◌-◌, length, drop}
+use Rattle.std.proofs.Common.{◌≡◌, ◌≤◌, drop}
 use Rattle.examination.specs.Testing.{nothing_seen}
 use Rattle.register.proofs.lists.GatheredTests.{seen_from}
 use Rattle.register.proofs.table.examine.Given as goal

@@ -7,7 +7,7 @@ use Rattle.certificate.specs.AtFault.{at_fault}
 use Rattle.std.proofs.Common.{arith}
 use Rattle.std.proofs.lemmas.Grind.{common_steps}
 use Rattle.certificate.proofs.Firsts.{if_deviating}
-use Rattle.certificate.proofs.record.Record.at_fault.Goals as goal
+use Rattle.certificate.proofs.fault.Record+Ratio.at_fault.Goals as goal
 
 pub returns-then-above : goal.returns-then-above
 unfolding at_fault

@@ -1,5 +1,5 @@
 use Rattle.certificate.specs.Record.{impure}
-use Rattle.certificate.proofs.record.Record.impure.Goals as goal
+use Rattle.certificate.proofs.record.Record+Ratio.impure.Goals as goal
 
 pub returns : goal.returns
 unfolding impure

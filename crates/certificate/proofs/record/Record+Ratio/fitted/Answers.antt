@@ -2,7 +2,7 @@ use mathlib.Core.Path.{refl}
 use Rattle.law.specs.declared.cell.Cell.TheVariants.{Hg}
 use Rattle.certificate.specs.Record.{fitted}
 use Rattle.certificate.proofs.Few.{one, two, three, four}
-use Rattle.certificate.proofs.record.Record.fitted.Goals as goal
+use Rattle.certificate.proofs.record.Record+Ratio.fitted.Goals as goal
 
 pub returns-in-len1 : goal.returns-in-len1
 unfolding fitted

@@ -1,6 +1,6 @@
 use mathlib.Core.Path.{sym, ◌∙◌}
 use Rattle.certificate.specs.AtFault.{cell_at_fault}
-use Rattle.certificate.proofs.record.Record.faulty_cell.Goals as goal
+use Rattle.certificate.proofs.fault.Record+Ratio.faulty_cell.Goals as goal
 
 pub returns-in_err-named : goal.returns-in_err-named
 unfolding cell_at_fault

@@ -1,6 +1,6 @@
 use Rattle.law.proofs.Subranges.{one_to_four}
 use Rattle.certificate.proofs.Records.{roomy}
-use Rattle.certificate.proofs.record.Record.certified.Goals as goal
+use Rattle.certificate.proofs.record.Record+Ratio.certified.Goals as goal
 
 pub fitted-k-requires : goal.fitted-k-requires
 fitted-k-requires c = record {

@@ -3,7 +3,7 @@ use mathlib.Core.Bool.{false}
 use Rattle.certificate.specs.Resistances.{outside}
 use Rattle.certificate.specs.AtFault.{at_fault_by, cell_at_fault_by}
 use Rattle.certificate.proofs.AtFault.{fault-of-ratios}
-use Rattle.certificate.proofs.resistances.Resistances.faulty_cell.Goals as goal
+use Rattle.certificate.proofs.fault.Record+Pair.faulty_cell.Goals as goal
 
 pub returns-in_err-subrange : goal.returns-in_err-subrange
 unfolding cell_at_fault_by

@@ -1,5 +1,5 @@
 use Rattle.certificate.specs.Record.{purity_cell_missing}
-use Rattle.certificate.proofs.record.Record.purity_cell_missing.Goals as goal
+use Rattle.certificate.proofs.record.Record+Ratio.purity_cell_missing.Goals as goal
 
 pub returns : goal.returns
 unfolding purity_cell_missing
