@@ -1,14 +1,16 @@
 -- Places, which are counted from -200 °C on, and what the code finds of the exact ratio at one.
 use mathlib.Core.Path.{◌≡◌, refl}
 use Prim.Native.Nat.{ℕ, ◌+◌, ◌*◌, ◌-◌, ◌/◌, ◌<◌, ◌≤◌, ◌^◌}
+use native.Mathlib.Nat.{mul-le-mul}
 use native.Mathlib.Omega.{arith}
 use lib.Dec.{leb}
 use lib.IntN.{ℤ, pos, neg_ℤ, ◌+ℤ◌, ◌-ℤ◌}
 use lib.Signed.{le_z, ◌≤ℤ◌}
 use Rattle.whole.proofs.Parts.{ints, add_parts, sub_parts, neg_parts}
 use Rattle.whole.proofs.Machine.{same_test}
-use Rattle.curve.specs.Curve.{units, first, last}
+use Rattle.curve.specs.Curve.{exact, units, first, last}
 use Rattle.curve.specs.Places.{step_at}
+use Rattle.curve.proofs.Sides.{fallen, exact_down}
 
 -- ---- the step at a place
 pub below : (place : ℕ) → place < 2_000_000 → step_at place ≡ neg_ℤ (pos (2_000_000 - place))
@@ -42,6 +44,22 @@ place_bound place h = omega (ints, add_parts first (pos place))
 pub next_place : (place : ℕ) → step_at place +ℤ pos 1 ≡ step_at (place + 1)
 unfolding step_at
 next_place place = omega (ints, add_parts first (pos place), add_parts first (pos (place + 1)), add_parts (step_at place) (pos 1))
+
+-- ---- under 1 by u units of 10^-18 and a rest
+pub fallen_under : (m : ℕ) → m ≤ 2_000_000 → fallen m ≤ 10 ^ 31
+fallen_under m h =
+    omega (arith, mul-le-mul h h, mul-le-mul {n₁ = m + 1_000_000} {n₂ = 3_000_000} (omega arith) (mul-le-mul (mul-le-mul h h) h))
+
+module _ (place u rest : ℕ) (h : place < 2_000_000) (e : exact (neg_ℤ (pos (2_000_000 - place))) +ℤ pos (u * 10 ^ 13 + rest) ≡ pos (10 ^ 31)) where
+  pub not-over-one : u * 10 ^ 13 + rest ≤ 10 ^ 31
+  not-over-one =
+      let m = 2_000_000 - place in
+      let x = exact (neg_ℤ (pos m)) in
+      omega (ints, exact_down m, fallen_under m (omega arith), add_parts x (pos (fallen m)), add_parts x (pos (u * 10 ^ 13 + rest)))
+
+  pub exact_below : exact (step_at place) ≡ pos (10 ^ 31 - (u * 10 ^ 13 + rest))
+  exact_below =
+      rw (below place h) (omega (ints, not-over-one, add_parts (exact (neg_ℤ (pos (2_000_000 - place)))) (pos (u * 10 ^ 13 + rest))))
 
 -- ---- the comparison with a ratio
 pub compared_down : (u rest w : ℕ) → rest < 10 ^ 13 → u * 10 ^ 13 + rest ≤ 10 ^ 31 → leb (10 ^ 18) (w * 10 ^ 9 + u) ≡ le_z (pos (10 ^ 31 - (u * 10 ^ 13 + rest))) (units w)

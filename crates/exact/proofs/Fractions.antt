@@ -6,10 +6,10 @@ use native.Mathlib.Nat.{mul-pos, pow-zero, pow-succ', mul-one, one-mul}
 use native.Mathlib.Omega.{arith}
 use lib.ListN.{length}
 use lib.IntN.{ℤ, pos, pow, one, ◌+ℤ◌, ◌-ℤ◌, ◌*ℤ◌, *ℤ_comm, *ℤ-one}
-use lib.Signed.{◌<ℤ◌}
+use lib.Signed.{◌≤ℤ◌, ◌<ℤ◌}
 use Rattle.whole.proofs.Parts.{ints, mul_parts}
-use Rattle.whole.proofs.Ring.{*ℤ-assoc, *ℤ-distribˡ, *ℤ-distribʳ, *ℤ-subʳ, *ℤ-swap, *ℤ-cross, *ℤ-strict, *ℤ-cancel-<}
-use Rattle.exact.specs.Fraction.{Fraction, integer, ◌+ᶠ◌, ◌-ᶠ◌, ◌*ᶠ◌, ◌^ᶠ◌, ◌<ᶠ◌}
+use Rattle.whole.proofs.Ring.{*ℤ-assoc, *ℤ-distribˡ, *ℤ-distribʳ, *ℤ-subʳ, *ℤ-swap, *ℤ-cross, *ℤ-mono, *ℤ-strict, *ℤ-cancel-≤, *ℤ-cancel-<}
+use Rattle.exact.specs.Fraction.{Fraction, integer, ◌+ᶠ◌, ◌-ᶠ◌, ◌*ᶠ◌, ◌^ᶠ◌, ◌<ᶠ◌, ◌≤ᶠ◌}
 use Rattle.exact.specs.Polynomial.{terms}
 
 -- p is z / P
@@ -67,6 +67,10 @@ module _ {p q : Fraction} {y z : ℤ} {P : ℕ} (h : Is p y P) (k : Is q z P) wh
   pub is-< : 0 < P → y <ℤ z → p <ᶠ q
   is-< s o =
       record { out = *ℤ-cancel-< (p.num *ℤ pos q.den) (q.num *ℤ pos p.den) P (rw (left, right) (*ℤ-strict y z (p.den * q.den) (mul-pos p.positive q.positive) o)) }
+
+  pub is-≤ : 0 < P → y ≤ℤ z → p ≤ᶠ q
+  is-≤ s o =
+      record { out = *ℤ-cancel-≤ (p.num *ℤ pos q.den) (q.num *ℤ pos p.den) P s (rw (left, right) (*ℤ-mono y z (p.den * q.den) o)) }
 
 -- ---- a polynomial at x = n / unit is a whole number over a power of the unit
 -- the exact value times unit ^ (number of the coefficients after the first)

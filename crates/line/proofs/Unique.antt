@@ -25,14 +25,21 @@ use Rattle.text.proofs.Faults.{first-named, a-row, some_fault}
 use Rattle.line.specs.declared.lent.LineAnswer.{LineAnswer}
 use Rattle.line.specs.Kinds.{Kind, line_end, RowAnswered, AnsweredBy, answer_line, blanks, own_columns, refusal_of, is_fault, fault_columns, nameless_line}
 use Rattle.line.specs.Writing.{commaed}
-use Rattle.line.specs.Lent.{Placed}
+use Rattle.line.specs.Lent.{Placed, PlacedAs}
 use Rattle.line.specs.Promised.{OneAnswer, OneAnswerInto, AnswersFit, NumbersOfLines, OthersBlank, FieldNamed, AnsweredBefore, WereTens, HadAnswer, LinesKept}
 use Rattle.line.proofs.Answers.{answer-text}
 
 -- ---- in a lent buffer
+-- what is answered and what is left are the same two
+both_are : {A B : Type 0} {a x y : A} {b u v : B} → (x ≡ a) × (u ≡ b) → (y ≡ a) × (v ≡ b) → (x ≡ y) × (u ≡ v)
+both_are h k = (h.0 ∙ sym k.0, h.1 ∙ sym k.1)
+
 pub one_placed : (n : ℕ) (t out out' out'' : List ℕ) (x y : LineAnswer) → Placed n t out out' x → Placed n t out out'' y → (x ≡ y) × (out' ≡ out'')
-one_placed n t out out' out'' x y p q =
-    if_both (leb (length t) (length out)) p q (λ h k. (h.0 ∙ sym k.0, h.1 ∙ sym k.1)) (λ h k. (h.0 ∙ sym k.0, h.1 ∙ sym k.1))
+one_placed n t out out' out'' x y p q = if_both (leb (length t) (length out)) p q both_are both_are
+
+-- the same where nothing is answered without room: whether there was room is one, too
+pub one_placed_as : (n : ℕ) (t out out' out'' : List ℕ) (x y : Option LineAnswer) → PlacedAs n t out out' x → PlacedAs n t out out'' y → (x ≡ y) × (out' ≡ out'')
+one_placed_as n t out out' out'' x y p q = if_both (leb (length t) (length out)) p q both_are both_are
 
 -- ---- of a kind whose rows have one outcome each
 module _ (kind : Kind) (one : (row : List Value) (o o' : Outcome kind.Answer) → Follows (kind.rule row) o → Follows (kind.rule row) o' → o ≡ o') where
@@ -46,7 +53,7 @@ module _ (kind : Kind) (one : (row : List Value) (o o' : Outcome kind.Answer) �
     where
       by : (found : Option Fault) → AnsweredBy kind line found n t → AnsweredBy kind line found n' t' → (n ≡ n') × (t ≡ t')
       by None h k = row-answer line n n' t t' h k
-      by (Some fault) h k = (h.0 ∙ sym k.0, h.1 ∙ sym k.1)
+      by (Some fault) h k = both_are h k
 
   pub one-answer-into : OneAnswerInto kind
   one-answer-into line out out' out'' x y (n, t, a, p) (n', t', b, q) =

@@ -1,7 +1,7 @@
 -- What is held of a partial line says as much as the line.
-use mathlib.Core.Path.{◌≡◌, refl, sym, ap, ◌∙◌, subst}
+use mathlib.Core.Path.{◌≡◌, refl, sym, ap, ap₂, ◌∙◌, subst}
 use mathlib.Core.Bool.{Bool, true, false, ◌&&◌}
-use mathlib.Core.List.{List, [], ◌∷◌, ◌++◌}
+use mathlib.Core.List.{List, [], ◌∷◌, ◌++◌, append_assoc, append-nil}
 use Prim.Native.Nat.{ℕ, suc, ◌-◌, ◌≤◌, ◌<◌}
 use Prim.Native.Char.{code}
 use native.Mathlib.Omega.{arith}
@@ -52,6 +52,10 @@ capped-alike line =
           subst (λ (s : List ℕ). Alike s line) (sym (capped-over line k)) (short-alike line k)
     ]
 
+pub alike-capped : {p q : List ℕ} → Alike p q → capped p ≡ capped q
+alike-capped (equal e) = ap capped e
+alike-capped {p} {q} (over hp hq e l) = capped-over p hp ∙ ap₂ (λ (s : List ℕ) (b : ℕ). s ++ (b ∷ [])) e l ∙ sym (capped-over q hq)
+
 pub alike-last : {p q : List ℕ} → Alike p q → last_byte p ≡ last_byte q
 alike-last (equal e) = ap last_byte e
 alike-last (over hp hq e l) = l
@@ -67,6 +71,10 @@ alike-byte {p} {q} (over hp hq e l) b =
     (take-append-le (most_held - 1) p (b ∷ []) (omega arith) ∙ e ∙ sym (take-append-le (most_held - 1) q (b ∷ []) (omega arith)))
     (last_more p b ∙ sym (last_more q b))
 
+pub alike-append : {p q : List ℕ} → Alike p q → (s : List ℕ) → Alike (p ++ s) (q ++ s)
+alike-append {p} {q} a [] = subst (λ (x : List ℕ). Alike x (q ++ [])) (sym (append-nil p)) (subst (λ (x : List ℕ). Alike p x) (sym (append-nil q)) a)
+alike-append {p} {q} a (b ∷ s) = rw (← append_assoc p (b ∷ []) s, ← append_assoc q (b ∷ []) s) (alike-append (alike-byte a b) s)
+
 pub alike-begun : {p q : List ℕ} → Alike p q → (s : List ℕ) → Alike (begun p s) (begun q s)
 alike-begun a [] = a
 alike-begun {p} {q} a (b ∷ s) = rw (alike-ends a b) (by (ends_line q b) (alike-begun (alike-byte a b) s))
@@ -75,5 +83,15 @@ alike-begun {p} {q} a (b ∷ s) = rw (alike-ends a b) (by (ends_line q b) (alike
     by true k = equal refl
     by false k = k
 
-pub capped-ends : (line : List ℕ) (b : ℕ) → ends_line (capped line) b ≡ ends_line line b
-capped-ends line = alike-ends (capped-alike line)
+module _ (line : List ℕ) where
+  pub capped-last : last_byte (capped line) ≡ last_byte line
+  capped-last = alike-last (capped-alike line)
+
+  pub capped-ends : (b : ℕ) → ends_line (capped line) b ≡ ends_line line b
+  capped-ends = alike-ends (capped-alike line)
+
+  pub capped-append : (s : List ℕ) → capped (capped line ++ s) ≡ capped (line ++ s)
+  capped-append s = alike-capped (alike-append (capped-alike line) s)
+
+  pub capped-begun : (s : List ℕ) → capped (begun (capped line) s) ≡ capped (begun line s)
+  capped-begun s = alike-capped (alike-begun (capped-alike line) s)

@@ -114,3 +114,9 @@ module _ (line chunk : List ℕ) (from i : ℕ) (at : EndsAt (begun line (take f
     begun-with =
         ap (begun line) with_it ∙ begun-append line (take from chunk) (take (i + 1) (drop from chunk))
         ∙ begun-none (begun line (take from chunk)) (drop from chunk) i at inside
+
+    -- where nothing is begun before
+    pub ended-whole : begun line (take from chunk) ≡ [] → ended line (take (from + i + 1) chunk) ≡ ended line (take from chunk) ++ (take (i - 1) (drop from chunk) ∷ [])
+    ended-whole e =
+        let front : all_but_last (take i (drop from chunk)) ≡ take (i - 1) (drop from chunk) = front_take i (drop from chunk) at.within in
+        ended-with ∙ ap (λ (l : List ℕ). ended line (take from chunk) ++ (l ∷ [])) (ap (λ (l : List ℕ). all_but_last (l ++ take i (drop from chunk))) e ∙ front)

@@ -9,7 +9,7 @@ use lib.ListN.{length, get_or, take}
 use lib.Seq.{take-suc}
 use borrow.Author.Tests.{ne_eqb}
 use Rattle.lines.specs.Lines.{last_byte, ends_after, ends_line, ended, begun}
-use Rattle.lines.specs.Ends.{byte_before}
+use Rattle.lines.specs.Ends.{byte_before, EndsAt}
 use Rattle.lines.specs.Feeds.{feed, NoFeed, FirstFeed}
 use Rattle.lines.proofs.Lines.{ended-more, begun_more, last_more}
 
@@ -41,6 +41,9 @@ module _ {first : ℕ} {s : List ℕ} {i last : ℕ} (none : NoEndAfter first s 
         whole = ap (begun line) t ∙ begun_more line (take i s) b g ∙ ap (λ (l : List ℕ). l ++ (b ∷ [])) k.whole ∙ append_assoc line (take i s) (b ∷ []) ∙ ap (λ (l : List ℕ). line ++ l) (sym t);
         after = ap (λ (l : List ℕ). last_byte (line ++ l)) t ∙ ap last_byte (sym (append_assoc line (take i s) (b ∷ []))) ∙ last_more (line ++ take i s) b;
       }
+
+  pub ends_at : i ≤ length s → (i < length s → ends_after last (get_or s i 0) ≡ true) → (line : List ℕ) → last_byte line ≡ first → EndsAt line s i
+  ends_at h ends line e = record { within = h; before = (none line e).before; whole = (none line e).whole; ends = λ k. ends_is line e (get_or s i 0) ∙ ends k }
 
 -- the byte before the next one
 pub before-next : (last : ℕ) (s : List ℕ) (i : ℕ) → get_or s i 0 ≡ byte_before last s (i + 1)

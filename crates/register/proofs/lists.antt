@@ -11,5 +11,5 @@ pub mod PassedTests
 pub mod NumberPlace
 -- What the tests gather place by place is what their definitions say.
 pub mod GatheredTests
-
 -- From what the tests found to the refusal and to the table that is left.
+pub mod RefusalFound

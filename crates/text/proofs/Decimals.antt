@@ -1,14 +1,14 @@
 -- Decimal digits, one more or one less at a time.
 use mathlib.Core.Path.{◌≡◌, refl, sym, ap, ◌∙◌}
 use mathlib.Core.Bool.{Bool, true, false}
-use mathlib.Core.List.{List, [], ◌∷◌, ◌++◌, append_assoc}
+use mathlib.Core.List.{List, [], ◌∷◌, ◌++◌, append_assoc, append-nil}
 use native.Mathlib.Decide.{dec_le}
 use native.Mathlib.Nat.{pow-suc, one-le-pow}
 use native.Mathlib.Omega.{arith}
 use Prim.Native.Nat.{ℕ, zero, suc, ◌+◌, ◌-◌, ◌*◌, ◌/◌, ◌%◌, ◌^◌, ◌≤◌, ◌<◌}
 use Prim.Native.Char.{code}
 use lib.Dec.{ltb, lit<}
-use lib.ListN.{length, take, drop, set, length-append, length-set}
+use lib.ListN.{length, take, drop, set, length-append, length-set, take-append-drop}
 use borrow.Author.Tests.{lt-ltb, le-ltb, ltb-false}
 use Rattle.whole.specs.Choice.{if◌then◌otherwise◌}
 use Rattle.text.specs.Decimal.{digits_in, decimal}
@@ -104,6 +104,17 @@ module _ {out₀ : List ℕ} {at n : ℕ} {out : List ℕ} {rest i : ℕ} (w : W
       ap (λ (s : List ℕ). set s at (code "0" + rest)) (w.bytes ∙ ap (λ (k : ℕ). take k out₀ ++ w.tail ++ drop (at + length (decimal n)) out₀) i-is)
       ∙ over-before out₀ w.tail (drop (at + length (decimal n)) out₀) at (code "0" + rest) (omega (arith, w.within, i-is))
       ∙ ap (λ (s : List ℕ). take at out₀ ++ s ++ drop (at + length (decimal n)) out₀) (sym n-is)
+
+pub write_start : (out : List ℕ) (at n : ℕ) → at + length (decimal n) ≤ length out → Writing out at n out n (at + length (decimal n))
+write_start out at n h = record {
+  tail = [];
+  digits = sym (append-nil (decimal n));
+  offset = refl;
+  bytes =
+      sym (ap (λ (s : List ℕ). s ++ drop (at + length (decimal n)) out) (append-nil (take (at + length (decimal n)) out)) ∙ take-append-drop (at + length (decimal n)) out);
+  same = refl;
+  within = h;
+}
 
 -- a number below a power of ten has no more digits than that
 pub few_digits : (k n : ℕ) → n < 10 ^ suc k → length (decimal n) ≤ suc k

@@ -5,20 +5,23 @@ use mathlib.Core.List.{List, [], ◌∷◌, map}
 use Rattle.std.specs.Prelude.{Option, None, Some}
 use Rattle.std.specs.Option.{is_none}
 use Rattle.std.proofs.lemmas.List.Recursion.{is_count_by}
+use Rattle.std.proofs.lemmas.List.Sums.{count_by-le-length}
 use native.Mathlib.Omega.{arith}
 use Prim.Native.Nat.{ℕ, zero, suc, ◌+◌, ◌-◌, ◌≤◌, ◌<◌}
 use Prim.Native.Char.{code}
 use lib.Dec.{ltb, eqb}
-use lib.ListN.{length, drop, get_or, length-drop}
-use lib.Seq.{drop-drop}
+use lib.ListN.{length, take, drop, get_or, length-drop, drop_of_length-le}
+use lib.Seq.{drop-drop, length-take-le}
 use borrow.Author.Tests.{le-leb, lt-leb, lt-ltb, ltb-false, eqb-true}
+use Rattle.std.specs.List.{list_all}
 use Rattle.whole.specs.Choice.{if◌then◌otherwise◌}
+use Rattle.whole.proofs.Choice.{and_true}
 use Rattle.text.specs.declared.columns.Holds.{Holds}
 use Rattle.text.specs.declared.columns.Fault.{Fault}
 use Rattle.text.specs.declared.columns.Fault.TheVariants.{TooLong, WrongCount, Broken}
 use Rattle.text.specs.Fields.{field, later, fields}
 use Rattle.text.specs.Columns.{Column, held, column_at, longest_line, rule, rule_of, first_broken, fault_by, fault_of, well_formed}
-use Rattle.text.specs.Scanned.{next_at, commas_in, first_lost}
+use Rattle.text.specs.Scanned.{next_at, commas_in, first_lost, is_narrow}
 use Rattle.text.specs.Promised.{FirstToBreak, FirstNamed}
 use Rattle.text.proofs.Rows.{Split, only, comma, split, keeps, breaks}
 
@@ -29,6 +32,10 @@ later-long = is_count_by (λ s. length (later s)) (λ b. eqb b (code ",")) refl 
     by : (b : ℕ) (s : List ℕ) (t : Bool) → length (if t then field s ∷ later s otherwise later s) ≡ cond t (1 + length (later s)) (length (later s))
     by b s true = omega arith
     by b s false = refl
+
+-- no more commas than bytes
+pub commas_few : (s : List ℕ) → commas_in s ≤ length s
+commas_few s = count_by-le-length (λ (b : ℕ). eqb b (code ",")) s
 
 fields-long : (line : List ℕ) → length (fields line) ≡ commas_in line + 1
 fields-long line = omega (arith, later-long line)
@@ -56,6 +63,16 @@ found line n (what ∷ others) from h l = by (rule_of what (field (drop from lin
         let within : next ≤ length line = omega (arith, on, length-drop from line) in
         let are : later (drop from line) ≡ fields (drop next line) = rest ∙ ap fields (drop-drop (length (field (drop from line)) + 1) from line) in
         rw (keeps line (rule_of what) from h e, le-leb next (length line + 1) (omega arith), are) (again next within (omega (arith, ap length are)))
+
+-- no field is lost past the columns
+pub lost_nowhere : (line : List ℕ) (columns : List Holds) (count from : ℕ) → count ≤ length columns → first_lost line (count + 1) (drop count (take count columns)) from ≡ None
+lost_nowhere line columns count from k = rw (drop_of_length-le (take count columns) {i = count} (omega (arith, length-take-le count columns k)))
+
+-- the columns' numbers are narrow, each
+pub narrow_at : (columns : List Holds) (n : ℕ) (other : Holds) → list_all is_narrow columns ≡ true → n < length columns → is_narrow (get_or columns n other) ≡ true
+narrow_at [] n other e h = absurd (omega arith)
+narrow_at (what ∷ columns) zero other e h = (and_true (is_narrow what) (list_all is_narrow columns) e).0
+narrow_at (what ∷ columns) (suc n) other e h = narrow_at columns n other (and_true (is_narrow what) (list_all is_narrow columns) e).1 (omega arith)
 
 -- ---- the fault, by its three tests
 module _ (columns : List Holds) (line : List ℕ) where

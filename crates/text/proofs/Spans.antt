@@ -39,6 +39,9 @@ pub record Span (kind : ℕ → Bool) (s : List ℕ) (i : ℕ) : Type 0 where
   pub within : i ≤ length s
   pub all : list_all kind (take i s) ≡ true
 
+pub span_start : (kind : ℕ → Bool) (s : List ℕ) → Span kind s 0
+span_start kind s = record { within = omega arith; all = refl }
+
 pub span_more : {kind : ℕ → Bool} {s : List ℕ} {i : ℕ} → Span kind s i → i < length s → kind (get_or s i 0) ≡ true → Span kind s (i + 1)
 span_more {kind} {s} {i} p h k = record {
   within = omega arith;

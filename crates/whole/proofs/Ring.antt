@@ -2,7 +2,7 @@
 -- the product, 0 and 1) are cited from there.
 use mathlib.Core.Path.{◌≡◌, ap}
 use Prim.Native.Nat.{ℕ, suc, ◌+◌, ◌*◌, ◌<◌, ◌≤◌}
-use native.Mathlib.Nat.{mul-le-mul_right, lt_of_mul-lt-mul_right}
+use native.Mathlib.Nat.{mul-le-mul_right, le_of_mul-le-mul_right, lt_of_mul-lt-mul_right}
 use native.Mathlib.Decide.{dec_lt}
 use lib.IntN.{ℤ, pos, neg_ℤ, ◌+ℤ◌, ◌-ℤ◌, ◌*ℤ◌, *ℤ_comm}
 use lib.Signed.{◌≤ℤ◌, ◌<ℤ◌}
@@ -34,6 +34,9 @@ pub *ℤ-subʳ : (a b c : ℤ) → (a -ℤ b) *ℤ c ≡ a *ℤ c -ℤ b *ℤ c
       ap (λ (x : ℕ). x * up c) (sub_parts a b),
       ap (λ (x : ℕ). x * dn c) (sub_parts a b),
     )
+
+pub *ℤ-subˡ : (a b c : ℤ) → a *ℤ (b -ℤ c) ≡ a *ℤ b -ℤ a *ℤ c
+*ℤ-subˡ a b c = cc (*ℤ_comm a (b -ℤ c), *ℤ-subʳ b c a, *ℤ_comm b a, *ℤ_comm c a)
 
 pub *ℤ-assoc : (a b c : ℤ) → (a *ℤ b) *ℤ c ≡ a *ℤ (b *ℤ c)
 *ℤ-assoc a b c =
@@ -69,8 +72,17 @@ strictly a b h f = by (dec_lt (up a + dn b) (up b + dn a))
     by (yes l) = omega ints
     by (no l) = absurd (f (omega ints))
 
+pub +ℤ-mono : (a b c d : ℤ) → a ≤ℤ b → c ≤ℤ d → (a +ℤ c) ≤ℤ (b +ℤ d)
++ℤ-mono a b c d h k = omega (ints, add_parts a c, add_parts b d)
+
 pub *ℤ-mono : (a b : ℤ) (k : ℕ) → a ≤ℤ b → (a *ℤ pos k) ≤ℤ (b *ℤ pos k)
 *ℤ-mono a b k h = omega (ints, mul_parts a (pos k), mul_parts b (pos k), mul-le-mul_right k (le→parts h))
+
+pub *ℤ-cancel-≤ : (a b : ℤ) (k : ℕ) → 0 < k → (a *ℤ pos k) ≤ℤ (b *ℤ pos k) → a ≤ℤ b
+*ℤ-cancel-≤ a b k p h =
+    let m : (up a + dn b) * k ≤ (up b + dn a) * k = omega (ints, mul_parts a (pos k), mul_parts b (pos k)) in
+    let l : up a + dn b ≤ up b + dn a = le_of_mul-le-mul_right m p in
+    omega ints
 
 pub *ℤ-strict : (a b : ℤ) (k : ℕ) → 0 < k → a <ℤ b → (a *ℤ pos k) <ℤ (b *ℤ pos k)
 *ℤ-strict a b k p h =

@@ -1,13 +1,15 @@
 -- What `floor` and `quotient` are: the one whole number between a quotient and the quotient less one.
 use mathlib.Core.Path.{◌≡◌, refl}
-use Prim.Native.Nat.{ℕ, zero, suc, ◌+◌, ◌*◌, ◌/◌, ◌<◌, ◌≤◌}
+use Prim.Native.Nat.{ℕ, zero, suc, ◌+◌, ◌*◌, ◌/◌, ◌<◌, ◌≤◌, ◌^◌}
 use native.Mathlib.Nat.{div-add-mod, mod-lt, lt_of_mul-lt-mul_left}
 use native.Mathlib.Omega.{arith}
 use lib.IntN.{ℤ, pos, negsuc, neg_ℤ, nat_abs, ◌+ℤ◌, ◌*ℤ◌}
 use lib.Signed.{◌≤ℤ◌, ◌<ℤ◌}
+use mir.Syntax.{w64}
+use mir.Val.{SFits}
 use Rattle.whole.specs.Floor.{floor, quotient}
 use Rattle.whole.proofs.Parts.{up, dn, ints, add_parts, neg_parts, mul_parts, abs_parts}
-use Rattle.whole.proofs.Size.{abs_of, abs_neg}
+use Rattle.whole.proofs.Size.{abs_of, abs_neg, abs→fits}
 
 -- d q ≤ z < d q + d, of the parts
 pub floor_parts : (z : ℤ) (d : ℕ) → 0 < d → (d * up (floor z d) + dn z ≤ up z + d * dn (floor z d)) × (up z + d * dn (floor z d) < d * up (floor z d) + dn z + d)
@@ -28,6 +30,14 @@ floor_unique z k d h p q =
     let s = add_parts (pos d *ℤ k) (pos d) in
     let a : up (floor z d) + dn k < suc (up k + dn (floor z d)) = lt_of_mul-lt-mul_left d (omega ints) in
     let b : up k + dn (floor z d) < suc (up (floor z d) + dn k) = lt_of_mul-lt-mul_left d (omega ints) in
+    omega ints
+
+-- a larger number has no smaller quotient
+pub floor_mono : (y z : ℤ) (d : ℕ) → 0 < d → y ≤ℤ z → floor y d ≤ℤ floor z d
+floor_mono y z d h p =
+    let f = floor_parts y d h in
+    let g = floor_parts z d h in
+    let a : up (floor y d) + dn (floor z d) < suc (up (floor z d) + dn (floor y d)) = lt_of_mul-lt-mul_left d (omega ints) in
     omega ints
 
 -- the size of a quotient
@@ -79,3 +89,11 @@ pub quotient-within : (z d : ℤ) (k : ℕ) → (d ≡ pos 0 → ⊥) → nat_ab
 quotient-within z (pos zero) k h p = absurd (h refl)
 quotient-within z (pos (suc d)) k h p = floor-within z (suc d) k (omega arith) p
 quotient-within z (negsuc d) k h p = floor-within (neg_ℤ z) (suc d) k (omega arith) (rw abs_neg p)
+
+one_or_more : (d : ℤ) (k : ℕ) → (d ≡ pos 0 → ⊥) → k ≤ nat_abs d * k
+one_or_more (pos zero) k h = absurd (h refl)
+one_or_more (pos (suc d)) k h = omega arith
+one_or_more (negsuc d) k h = omega arith
+
+pub quotient_fits : (z d : ℤ) → (d ≡ pos 0 → ⊥) → nat_abs z < 2 ^ 63 → SFits w64 (quotient z d)
+quotient_fits z d h p = abs→fits _ (omega (arith, quotient-within z d (nat_abs z) h (one_or_more d (nat_abs z) h)))

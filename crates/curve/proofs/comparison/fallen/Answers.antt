@@ -1,21 +1,16 @@
 use mathlib.Core.Path.{◌≡◌}
-use Prim.Native.Nat.{ℕ, ◌+◌, ◌*◌, ◌/◌, ◌%◌, ◌≤◌, ◌^◌}
-use native.Mathlib.Nat.{mul-le-mul}
+use Prim.Native.Nat.{ℕ, ◌+◌, ◌*◌, ◌/◌, ◌%◌, ◌^◌}
 use native.Mathlib.Omega.{arith}
 use lib.IntN.{pos, neg_ℤ}
 use Rattle.whole.proofs.Parts.{ints, add_parts}
 use Rattle.curve.specs.Curve.{exact}
 use Rattle.curve.proofs.Sides.{fallen, exact_down}
+use Rattle.curve.proofs.Places.{fallen_under}
 use Rattle.curve.proofs.comparison.fallen.Goals as goal
 
 -- the units and the rest are all that the ratio fell
 joined : (m hi lo : ℕ) → hi * 10 ^ 12 + lo ≡ 4_183 * (m * (m + 1_000_000)) * m * m → (390_830_000_000 * m + 5_775 * (m * m) + hi / 10) * 10 ^ 13 + (hi % 10 * 10 ^ 12 + lo) ≡ fallen m
 joined m hi lo e = omega arith
-
--- which is at most 1
-fallen_under : (m : ℕ) → m ≤ 2_000_000 → fallen m ≤ 10 ^ 31
-fallen_under m h =
-    omega (arith, mul-le-mul h h, mul-le-mul {n₁ = m + 1_000_000} {n₂ = 3_000_000} (omega arith) (mul-le-mul (mul-le-mul h h) h))
 
 pub returns : goal.returns
 returns c =
